@@ -1,0 +1,5 @@
+pub mod Refusals
+pub mod Positions
+pub mod Cursors
+pub mod Ranges
+pub mod Sets

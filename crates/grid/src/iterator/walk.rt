@@ -1,0 +1,80 @@
+// The positions of an entity, one by one.
+ghost use mathlib.Core.Path.{_≡_};
+ghost use mathlib.Core.List.{[]};
+ghost use Prim.Native.Nat.{_-_, _≤_, _<_};
+ghost use Rattle.grid.specs.Positions.{block, positionsOf};
+ghost use Rattle.grid.specs.Cursors.{remaining, Steps};
+use super::EntityIterator;
+use crate::entity::Entity;
+use crate::position::Position;
+use crate::shape::MAX_COUNT;
+use crate::shape::Shape;
+
+impl Entity {
+    // A cursor over the entity's positions on a shape.
+    pub fn iter(self, shape: Shape) -> EntityIterator
+        ensures { λ r. ⌜ remaining r ≡ positionsOf shape self ⌝ }
+    {
+        let rows = shape.rows();
+        let columns = shape.columns();
+        if rows == 0 || columns == 0 {
+            return EntityIterator::done();
+        }
+        match self {
+            Entity::Global => EntityIterator::over(0, rows, 0, columns),
+            Entity::Row(r) if r < MAX_COUNT => EntityIterator::over(r, r + 1, 0, columns),
+            Entity::Column(c) if c < MAX_COUNT => EntityIterator::over(0, rows, c, c + 1),
+            Entity::Cell(r, c) if r < MAX_COUNT && c < MAX_COUNT => {
+                EntityIterator::over(r, r + 1, c, c + 1)
+            }
+            _ => EntityIterator::done(),
+        }
+    }
+}
+
+impl EntityIterator {
+    fn done() -> Self
+        ensures { λ r. ⌜ remaining r ≡ [] ⌝ }
+    {
+        EntityIterator {
+            row: 0,
+            column: 0,
+            left: 0,
+            right: 1,
+            bottom: 0,
+        }
+    }
+
+    // The block of the rows from `top` and the columns from `left`, up to the two ends, which are left out.
+    fn over(top: usize, bottom: usize, left: usize, right: usize) -> Self
+        requires low { ⌜ bottom ≤ 128 ⌝ }
+        requires near { ⌜ right ≤ 128 ⌝ }
+        requires wide { ⌜ left < right ⌝ }
+        ensures { λ r. ⌜ remaining r ≡ block top (bottom - top) left (right - left) ⌝ }
+    {
+        EntityIterator {
+            row: top,
+            column: left,
+            left,
+            right,
+            bottom,
+        }
+    }
+
+    // The first position of those to come; none at the end, where the cursor stays.
+    pub fn next(&mut self) -> Option<Position>
+        ensures { λ r. ⌜ Steps (remaining (now (self .entry))) r (remaining (now (self .exit))) ⌝ }
+    {
+        if self.row >= self.bottom {
+            return None;
+        }
+        let found = Position::at(self.row, self.column);
+        if self.column + 1 < self.right {
+            self.column += 1;
+        } else {
+            self.row += 1;
+            self.column = self.left;
+        }
+        Some(found)
+    }
+}
