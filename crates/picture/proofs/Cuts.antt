@@ -1,11 +1,14 @@
 -- Text cut at a byte.
 use mathlib.Core.Path.{_≡_, refl, sym, ap, _∙_}
+use mathlib.Core.Logic.{⊎-elim}
 use mathlib.Core.List.{List, [], _∷_, _++_}
 use Prim.Native.Nat.{ℕ, zero, suc, _+_, _-_, _<_, _≤_}
 use native.Mathlib.Omega.{arith}
 use lib.ListN.{length, getD, take, drop}
 use Rattle.std.proofs.shelf.Lists.{take-append-drop, drop-more, take-rest, getD-take, getD-at, length-append, length-take-le}
-use Rattle.picture.specs.Lines.{Without, Cut}
+use denote.Ref.{RefT}
+use Rattle.std.specs.declared.option.Option.the-variants.{Some}
+use Rattle.picture.specs.Lines.{Without, Cut, FirstLine}
 
 -- a cut at the first place of the byte, as slices of the text are read
 pub cut-at : (byte : ℕ) (text : List ℕ) (i : ℕ) → i < length text → getD text i 0 ≡ byte
@@ -41,3 +44,11 @@ same-cut byte (x ∷ f) (y ∷ g) b d v w e =
 pub no-cut : (byte : ℕ) (text f b : List ℕ) → Without byte text → text ≡ f ++ byte ∷ b → ⊥
 no-cut byte text f b w e =
     w (length f) (omega (arith, ap length e, length-append f (byte ∷ b))) (ap (λ xs. getD xs (length f) 0) e ∙ getD-at f byte b 0 (length f) refl)
+
+-- a line leaves less of the text
+pub less-left : (text : List ℕ) (line : RefT (List ℕ)) (rest : List ℕ) → FirstLine text (Some line) rest → length rest < length text
+less-left text line rest first =
+    ⊎-elim
+    (λ cut. omega (arith, ap length (cut .1), length-append (line .now) (10 ∷ rest)))
+    (λ last. omega (arith, ap length (last .3), last .1))
+    first

@@ -1,3 +1,4 @@
 pub mod Lines
 pub mod Requests
 pub mod Pictures
+pub mod Responses

@@ -2,3 +2,4 @@
 pub mod text;
 pub mod request;
 pub mod layout;
+pub mod respond;
