@@ -1,2 +1,3 @@
 pub mod Blocks
 pub mod Bits
+pub mod Listings

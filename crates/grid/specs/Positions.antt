@@ -1,8 +1,11 @@
 -- The positions of entities on a shape.
+use mathlib.Core.Path.{_≡_}
+use mathlib.Core.Logic.{_⊎_}
 use mathlib.Core.List.{List, [], _∷_, _++_}
 use mathlib.Core.Bool.{Bool, true, false, _&&_, _||_, not, cond}
-use Prim.Native.Nat.{ℕ, zero, suc, _+_}
+use Prim.Native.Nat.{ℕ, zero, suc, _+_, _<_}
 use lib.Dec.{eqb, ltb}
+use Rattle.std.specs.Orderings.{Decides}
 use Rattle.grid.specs.declared.shape.Shape.{Shape}
 use Rattle.grid.specs.declared.position.Position.{Position}
 use Rattle.grid.specs.declared.entity.Entity.{Entity}
@@ -49,3 +52,28 @@ covered s (Cell r c) = block r 1 c 1
 -- and no position has a number above 127.
 abbrev pub positionsOf : Shape → Entity → List Coordinates
 positionsOf s e = cond (not (isEmpty s) && isSmall e) (covered s e) []
+
+abbrev pub member : Coordinates → List Coordinates → Bool
+member p [] = false
+member p (q ∷ qs) = same p q || member p qs
+
+-- row a and column b lie in the entity, on a shape that has rows and columns
+abbrev pub LiesIn : Shape → Entity → ℕ → ℕ → Type 0
+LiesIn s Global a b = (a < s .rows) × (b < s .columns)
+LiesIn s (Row r) a b = (a ≡ r) × (b < s .columns)
+LiesIn s (Column c) a b = (a < s .rows) × (b ≡ c)
+LiesIn s (Cell r c) a b = (a ≡ r) × (b ≡ c)
+
+-- an earlier row, or the same row and an earlier column
+abbrev pub Before : Coordinates → Coordinates → Type 0
+Before p q = (p .0 < q .0) ⊎ ((p .0 ≡ q .0) × (p .1 < q .1))
+
+-- row by row, and so none twice
+abbrev pub InRowOrder : List Coordinates → Type 0
+InRowOrder [] = Unit {0}
+InRowOrder (p ∷ ps) = ((q : Coordinates) → member q ps ≡ true → Before p q) × InRowOrder ps
+
+-- the list has just the positions of the entity, row by row
+pub record Lists (s : Shape) (e : Entity) (ps : List Coordinates) : Type 0 where
+  pub exactly : (a b : ℕ) → Decides (member (a, b) ps) ((0 < s .rows) × (0 < s .columns) × (isSmall e ≡ true) × LiesIn s e a b)
+  pub ordered : InRowOrder ps

@@ -15,13 +15,14 @@ pub cut-at : (byte : ℕ) (text : List ℕ) (i : ℕ) → i < length text → ge
     → ((k : ℕ) → k < i → getD text k 0 ≡ byte → ⊥)
     → Cut byte text (take (i - 0) text) (take (length text - (i + 1)) (drop (i + 1) text))
 cut-at byte text i h here before =
-    let n : i - 0 ≡ i = omega arith in
-    ( λ k lt e.
-        let lt′ : k < i = omega (arith, lt, ap (λ m. length (take m text)) n, length-take-le i text (omega arith)) in
-        before k lt′ (sym (getD-take i text k 0 lt′) ∙ ap (λ m. getD (take m text) k 0) (sym n) ∙ e)
-    , sym (take-append-drop i text)
-      ∙ ap (λ xs. take i text ++ xs) (drop-more text i 0 h ∙ ap (λ b. b ∷ drop (i + 1) text) here ∙ ap (λ xs. byte ∷ xs) (sym (take-rest text (i + 1))))
-      ∙ ap (λ m. take m text ++ byte ∷ take (length text - (i + 1)) (drop (i + 1) text)) (sym n))
+    let n : i - 0 ≡ i = omega arith in (
+      λ k lt e.
+          let lt′ : k < i = omega (arith, lt, ap (λ m. length (take m text)) n, length-take-le i text (omega arith)) in
+          before k lt′ (sym (getD-take i text k 0 lt′) ∙ ap (λ m. getD (take m text) k 0) (sym n) ∙ e),
+      sym (take-append-drop i text)
+          ∙ ap (λ xs. take i text ++ xs) (drop-more text i 0 h ∙ ap (λ b. b ∷ drop (i + 1) text) here ∙ ap (λ xs. byte ∷ xs) (sym (take-rest text (i + 1))))
+          ∙ ap (λ m. take m text ++ byte ∷ take (length text - (i + 1)) (drop (i + 1) text)) (sym n),
+    )
 
 without-first : (byte x : ℕ) (xs : List ℕ) → Without byte (x ∷ xs) → x ≡ byte → ⊥
 without-first byte x xs w e = w 0 (omega arith) e

@@ -26,14 +26,15 @@ Shown rows columns text i = Shows rows columns (i / width columns) (i % width co
 -- a text that shows the right character everywhere is the picture
 pub whole-picture : (rows columns : ℕ) (text : List ℕ) → ((i : ℕ) → i < height rows * width columns → Shown rows columns text i) → Picture rows columns text
 whole-picture rows columns text shown = record {
-    spots = λ s on.
+  spots = λ s on.
       let b = within rows columns s on in
       shown (lineOf s * width columns + columnOf s) (omega (arith, mul-add-lt (lineOf s) (width columns) (columnOf s) (height rows) (b .0) (b .1))) .spot s on
       (sym (div-mul-add (lineOf s) (width columns) (columnOf s) (b .1)), sym (mod-mul-add (lineOf s) (width columns) (columnOf s) (b .1)));
-    ends = λ line below.
+  ends = λ line below.
       let inside : 2 * columns + 1 < width columns = omega arith in
       shown (line * width columns + (2 * columns + 1)) (omega (arith, mul-add-lt line (width columns) (2 * columns + 1) (height rows) below inside)) .end
-      (mod-mul-add line (width columns) (2 * columns + 1) inside) }
+      (mod-mul-add line (width columns) (2 * columns + 1) inside);
+}
 
 -- one character more
 pub shown-more : (rows columns : ℕ) (text : List ℕ) (k x : ℕ) → k < length text
@@ -43,5 +44,5 @@ pub shown-more : (rows columns : ℕ) (text : List ℕ) (k x : ℕ) → k < leng
 shown-more rows columns text k x inside before here =
     below-more (Shown rows columns (set text k x)) k
     (λ i h. let apart : i ≢ k = omega arith in
-      subst (Shows rows columns (i / width columns) (i % width columns)) (sym (getD-set-other text k i x 0 apart)) (before i h))
+    subst (Shows rows columns (i / width columns) (i % width columns)) (sym (getD-set-other text k i x 0 apart)) (before i h))
     (subst (Shows rows columns (k / width columns) (k % width columns)) (sym (getD-set-same text k x 0 inside)) here)

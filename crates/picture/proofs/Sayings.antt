@@ -43,7 +43,8 @@ pub says-one : (line : List ℕ) (a b c a′ b′ c′ : ℕ) → Says line a b 
 says-one line a b c a′ b′ c′ s t =
     let cut : Cut 32 line (s .0) (s .1 ++ 32 ∷ s .2) = (numeral-without (s .0) a (s .4), s .3) in
     let next : Cut 32 (s .1 ++ 32 ∷ s .2) (s .1) (s .2) = (numeral-without (s .1) b (s .5), refl) in
-    let others = other-numbers line (s .0) (s .1 ++ 32 ∷ s .2) (s .1) (s .2) cut next a′ b′ c′ t in
-    ( same-value (s .0) a a′ (s .4) (first-number line (s .0) (s .1 ++ 32 ∷ s .2) cut a′ b′ c′ t)
-    , same-value (s .1) b b′ (s .5) (others .0)
-    , same-value (s .2) c c′ (s .6) (others .1))
+    let others = other-numbers line (s .0) (s .1 ++ 32 ∷ s .2) (s .1) (s .2) cut next a′ b′ c′ t in (
+      same-value (s .0) a a′ (s .4) (first-number line (s .0) (s .1 ++ 32 ∷ s .2) cut a′ b′ c′ t),
+      same-value (s .1) b b′ (s .5) (others .0),
+      same-value (s .2) c c′ (s .6) (others .1),
+    )

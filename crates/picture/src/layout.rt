@@ -9,7 +9,9 @@ use grid::refusal::Refusal;
 use grid::shape::Shape;
 
 const BLANK: u8 = b'.';
+
 const CELL: u8 = b'o';
+
 const LINE_END: u8 = b'\n';
 
 // What a character of the picture stands for.
@@ -28,12 +30,14 @@ pub fn spot_at(shape: Shape, line: usize, column: usize) -> Option<Spot>
     }
     let r = line / 2;
     let c = column / 2;
-    Some(match (line % 2, column % 2) {
-        (0, 0) => Spot::Mark(Place::Point(r, c)),
-        (0, _) => Spot::Mark(Place::Across(r, c)),
-        (_, 0) => Spot::Mark(Place::Down(r, c)),
-        _ => Spot::Cell(r, c),
-    })
+    Some(
+        match (line % 2, column % 2) {
+            (0, 0) => Spot::Mark(Place::Point(r, c)),
+            (0, _) => Spot::Mark(Place::Across(r, c)),
+            (_, 0) => Spot::Mark(Place::Down(r, c)),
+            _ => Spot::Cell(r, c),
+        },
+    )
 }
 
 // The character at this line and column: nothing is drawn, so every place is blank.

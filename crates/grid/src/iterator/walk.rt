@@ -2,7 +2,7 @@
 ghost use mathlib.Core.Path.{_≡_};
 ghost use mathlib.Core.List.{[]};
 ghost use Prim.Native.Nat.{_-_, _≤_, _<_};
-ghost use Rattle.grid.specs.Positions.{block, positionsOf};
+ghost use Rattle.grid.specs.Positions.{block, positionsOf, Lists};
 ghost use Rattle.grid.specs.Cursors.{remaining, Steps};
 use super::EntityIterator;
 use crate::entity::Entity;
@@ -11,16 +11,25 @@ use crate::shape::MAX_COUNT;
 use crate::shape::Shape;
 
 impl Entity {
-    // A cursor over the entity's positions on a shape.
+    // A cursor over the entity's positions on a shape, row by row.
     pub fn iter(self, shape: Shape) -> EntityIterator
-        ensures { λ r. ⌜ remaining r ≡ positionsOf shape self ⌝ }
+        ensures means { λ r. ⌜ remaining r ≡ positionsOf shape self ⌝ }
+        ensures lists { λ r. ⌜ Lists shape self (remaining r) ⌝ }
+    {
+        EntityIterator::of(self, shape)
+    }
+}
+
+impl EntityIterator {
+    fn of(entity: Entity, shape: Shape) -> Self
+        ensures { λ r. ⌜ remaining r ≡ positionsOf shape entity ⌝ }
     {
         let rows = shape.rows();
         let columns = shape.columns();
         if rows == 0 || columns == 0 {
             return EntityIterator::done();
         }
-        match self {
+        match entity {
             Entity::Global => EntityIterator::over(0, rows, 0, columns),
             Entity::Row(r) if r < MAX_COUNT => EntityIterator::over(r, r + 1, 0, columns),
             Entity::Column(c) if c < MAX_COUNT => EntityIterator::over(0, rows, c, c + 1),
@@ -30,9 +39,7 @@ impl Entity {
             _ => EntityIterator::done(),
         }
     }
-}
 
-impl EntityIterator {
     fn done() -> Self
         ensures { λ r. ⌜ remaining r ≡ [] ⌝ }
     {

@@ -13,21 +13,21 @@ pub returns-in-Break-number : need.returns-in-Break-number
 returns-in-Break-number c =
     rw (c .from-residual-in-Break-number .ensures)
     (λ x y z s. c .in-Break-number .ensures tt x
-      (first-number (c .args .line .now) (c .in-Continue-first .first .now) (c .in-Continue-first .rest .now) (c .in-Continue-first .ensures tt) x y z s))
+    (first-number (c .args .line .now) (c .in-Continue-first .first .now) (c .in-Continue-first .rest .now) (c .in-Continue-first .ensures tt) x y z s))
 
 pub returns-in-Break-number-2 : need.returns-in-Break-number-2
 returns-in-Break-number-2 c =
     rw (c .from-residual-in-Break-number-2 .ensures)
     (λ x y z s. c .in-Break-number-2 .ensures tt y
-      (other-numbers (c .args .line .now) (c .in-Continue-first .first .now) (c .in-Continue-first .rest .now) (c .in-Continue-second .second .now) (c .in-Continue-second .third .now)
-        (c .in-Continue-first .ensures tt) (c .in-Continue-second .ensures tt) x y z s .0))
+    (other-numbers (c .args .line .now) (c .in-Continue-first .first .now) (c .in-Continue-first .rest .now) (c .in-Continue-second .second .now) (c .in-Continue-second .third .now)
+    (c .in-Continue-first .ensures tt) (c .in-Continue-second .ensures tt) x y z s .0))
 
 pub returns-in-Break-number-3 : need.returns-in-Break-number-3
 returns-in-Break-number-3 c =
     rw (c .from-residual-in-Break-number-3 .ensures)
     (λ x y z s. c .in-Break-number-3 .ensures tt z
-      (other-numbers (c .args .line .now) (c .in-Continue-first .first .now) (c .in-Continue-first .rest .now) (c .in-Continue-second .second .now) (c .in-Continue-second .third .now)
-        (c .in-Continue-first .ensures tt) (c .in-Continue-second .ensures tt) x y z s .1))
+    (other-numbers (c .args .line .now) (c .in-Continue-first .first .now) (c .in-Continue-first .rest .now) (c .in-Continue-second .second .now) (c .in-Continue-second .third .now)
+    (c .in-Continue-first .ensures tt) (c .in-Continue-second .ensures tt) x y z s .1))
 
 pub returns : need.returns
 returns c =
