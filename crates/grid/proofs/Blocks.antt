@@ -28,6 +28,14 @@ rest-start top left right bottom =
     rest-none top left left right bottom h ∙ ap (λ k. block top k left (right - left)) (sym n))
     (cases-lt top bottom)
 
+-- a whole block, by how many rows and columns it has
+pub rest-block : (top rows left columns : ℕ) → rest top left left (left + columns) (top + rows) ≡ block top rows left columns
+rest-block top rows left columns =
+    let n : top + rows - top ≡ rows = omega arith in
+    let m : left + columns - left ≡ columns = omega arith in
+    rest-start top left (left + columns) (top + rows)
+    ∙ ap (λ k. block top k left (left + columns - left)) n ∙ ap (block top rows left) m
+
 first-of-line : (row column right : ℕ) → column < right → line row column (right - column) ≡ (row, column) ∷ line row (column + 1) (right - (column + 1))
 first-of-line row column right h =
     let n : right - column ≡ suc (right - (column + 1)) = omega arith in ap (line row column) n

@@ -1,3 +1,3 @@
 pub mod Blocks
-pub mod Bits
+pub mod Words
 pub mod Listings

@@ -15,7 +15,7 @@ abbrev pub rest : ℕ → ℕ → ℕ → ℕ → ℕ → List Coordinates
 rest row column left right bottom =
     cond (ltb row bottom) (line row column (right - column) ++ block (row + 1) (bottom - (row + 1)) left (right - left)) []
 
-unfoldable pub remaining : EntityIterator → List Coordinates
+abbrev pub remaining : EntityIterator → List Coordinates
 remaining w = rest (w .row) (w .column) (w .left) (w .right) (w .bottom)
 
 -- a step gives the first of what is to come and leaves the rest; at the end it gives none, and stays there

@@ -1,16 +1,11 @@
 -- Sets of positions.
 use mathlib.Core.Bool.{Bool, _&&_}
-use mathlib.Core.List.{List}
-use Prim.Native.Nat.{ℕ, _+_, _*_, _/_, _%_, _^_}
-use lib.Dec.{eqb, ltb}
-use lib.ListN.{getD}
+use Prim.Native.Nat.{_+_, _*_}
+use lib.Dec.{ltb}
 use Rattle.grid.specs.declared.set.PositionSet.{PositionSet}
 use Rattle.grid.specs.Positions.{Coordinates}
+use Rattle.grid.specs.Bits.{bit}
 
--- bit n of a list of 64-bit words
-unfoldable pub bit : List ℕ → ℕ → Bool
-bit words n = eqb (getD words (n / 64) 0 / 2 ^ (n % 64) % 2) 1
-
--- the set has the position: no set has one outside the 128 by 128
-unfoldable pub has : PositionSet → Coordinates → Bool
-has s p = (ltb (p .0) 128 && ltb (p .1) 128) && bit (s .words) (p .0 * 128 + p .1)
+-- the set has the position: its bits go row by row, 128 to a row, and no set has a position outside the 128 by 128
+abbrev pub has : PositionSet → Coordinates → Bool
+has s p = (ltb (p .0) 128 && ltb (p .1) 128) && bit (s .bits) (p .0 * 128 + p .1)

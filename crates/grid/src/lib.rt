@@ -1,4 +1,5 @@
 // The words that the sheet is spoken in: refusals, shapes, positions, entities, ranges, places, and sets of positions.
+mod bits;
 pub mod entity;
 pub mod iterator;
 pub mod place;

@@ -4,12 +4,13 @@ ghost use mathlib.Core.Bool.{false, _||_};
 ghost use Prim.Native.Nat.{ℕ, _+_, _*_, _<_};
 ghost use Rattle.grid.specs.Positions.{same, coordinates};
 ghost use Rattle.grid.specs.Sets.{has};
+use crate::bits::BitTable;
 use crate::position::Position;
 use crate::shape::MAX_COUNT;
 
 #[derive(Drop)]
 pub struct PositionSet {
-    words: [u64; 256],
+    bits: BitTable,
 }
 
 // The number of a position's bit: row by row, 128 to a row.
@@ -25,22 +26,20 @@ impl PositionSet {
     pub fn new() -> Self
         ensures { λ r. ⌜ ((a b : ℕ) → has r (a, b) ≡ false) ⌝ }
     {
-        PositionSet { words: [0; 256] }
+        PositionSet {
+            bits: BitTable::new(),
+        }
     }
 
     pub fn insert(&mut self, position: Position)
         ensures { λ _. ⌜ ((a b : ℕ) → has (now (self .exit)) (a, b) ≡ (same (a, b) (coordinates position) || has (now (self .entry)) (a, b))) ⌝ }
     {
-        let n = bit_number(position);
-        let word = self.words[n / 64];
-        self.words[n / 64] = word | (1 << (n % 64));
+        self.bits.set(bit_number(position));
     }
 
     pub fn contains(&self, position: Position) -> bool
         ensures { λ r. ⌜ r ≡ has (now (self .entry)) (coordinates position) ⌝ }
     {
-        let n = bit_number(position);
-        let word = self.words[n / 64];
-        (word >> (n % 64)) & 1 == 1
+        self.bits.get(bit_number(position))
     }
 }

@@ -1,7 +1,7 @@
 -- The picture of a sheet with so many rows and columns.
 use mathlib.Core.Path.{_≡_}
 use mathlib.Core.List.{List}
-use Prim.Native.Nat.{ℕ, _+_, _*_, _<_, _≤_}
+use Prim.Native.Nat.{ℕ, _+_, _*_, _/_, _%_, _<_, _≤_}
 use lib.ListN.{length, getD}
 use Rattle.std.specs.declared.result.Result.{Result}
 use Rattle.std.specs.declared.result.Result.the-variants.{Ok, Err}
@@ -40,25 +40,25 @@ characterOf (Mark p) = 46
 characterOf (Cell r c) = 111
 
 -- the characters of one line of the picture with its line end, and the number of lines
-abbrev pub width : ℕ → ℕ
-width columns = 2 * columns + 2
+abbrev pub widthOf : ℕ → ℕ
+widthOf columns = 2 * columns + 2
 
-abbrev pub height : ℕ → ℕ
-height rows = 2 * rows + 1
+abbrev pub heightOf : ℕ → ℕ
+heightOf rows = 2 * rows + 1
 
--- the character at a line and a column is that of the spot there, and behind the last spot of a line its line end
-pub record Shows (rows columns line column character : ℕ) : Type 0 where
-  pub spot : (s : Spot) → On rows columns s → Stands s line column → character ≡ characterOf s
-  pub end : column ≡ 2 * columns + 1 → character ≡ 10
+-- character k of the picture, counted line by line, is that of the spot there, or the line end behind the last one
+pub record Shows (rows columns k character : ℕ) : Type 0 where
+  pub spot : (s : Spot) → On rows columns s → Stands s (k / widthOf columns) (k % widthOf columns) → character ≡ characterOf s
+  pub end : k % widthOf columns ≡ 2 * columns + 1 → character ≡ 10
 
 -- the text is the picture: every spot of the sheet has its character where it stands, and every line its line end
 pub record Picture (rows columns : ℕ) (text : List ℕ) : Type 0 where
-  pub spots : (s : Spot) → On rows columns s → getD text (lineOf s * width columns + columnOf s) 0 ≡ characterOf s
-  pub ends : (line : ℕ) → line < height rows → getD text (line * width columns + (2 * columns + 1)) 0 ≡ 10
+  pub spots : (s : Spot) → On rows columns s → getD text (lineOf s * widthOf columns + columnOf s) 0 ≡ characterOf s
+  pub ends : (line : ℕ) → line < heightOf rows → getD text (line * widthOf columns + (2 * columns + 1)) 0 ≡ 10
 
 -- a page that is too short is refused and stays; else the picture stands at its front, and the rest stays
 abbrev pub LaidOut : ℕ → ℕ → List ℕ → Result ℕ Refusal → List ℕ → Type 0
 LaidOut rows columns before (Ok n) after =
-    (n ≡ height rows * width columns) × (n ≤ length before) × (length after ≡ length before) × Picture rows columns after
+    (n ≡ heightOf rows * widthOf columns) × (n ≤ length before) × (length after ≡ length before) × Picture rows columns after
     × ((k : ℕ) → n ≤ k → getD after k 0 ≡ getD before k 0)
-LaidOut rows columns before (Err e) after = (e ≡ ShortTable) × (length before < height rows * width columns) × (after ≡ before)
+LaidOut rows columns before (Err e) after = (e ≡ ShortTable) × (length before < heightOf rows * widthOf columns) × (after ≡ before)

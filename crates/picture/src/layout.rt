@@ -3,7 +3,7 @@ ghost use mathlib.Core.Path.{_≡_};
 ghost use Prim.Native.Nat.{ℕ, _+_, _*_, _<_, _≤_};
 ghost use lib.ListN.{length, getD};
 ghost use Rattle.std.specs.Options.{Cases as BySome};
-ghost use Rattle.picture.specs.Pictures.{On, Stands, Shows, LaidOut};
+ghost use Rattle.picture.specs.Pictures.{On, Stands, widthOf, Shows, LaidOut};
 use grid::place::Place;
 use grid::refusal::Refusal;
 use grid::shape::Shape;
@@ -40,11 +40,19 @@ pub fn spot_at(shape: Shape, line: usize, column: usize) -> Option<Spot>
     )
 }
 
-// The character at this line and column: nothing is drawn, so every place is blank.
-fn character_at(shape: Shape, line: usize, column: usize) -> u8
-    ensures { λ r. ⌜ Shows (shape .rows) (shape .columns) line column r ⌝ }
+// How many characters a line of the picture has, its line end included.
+fn width(shape: Shape) -> usize
+    ensures { λ r. ⌜ r ≡ widthOf (shape .columns) ⌝ }
 {
-    match spot_at(shape, line, column) {
+    2 * shape.columns() + 2
+}
+
+// Character k of the picture, counted line by line: nothing is drawn, so every place is blank.
+fn character(shape: Shape, k: usize) -> u8
+    ensures { λ r. ⌜ Shows (shape .rows) (shape .columns) k r ⌝ }
+{
+    let width = width(shape);
+    match spot_at(shape, k / width, k % width) {
         Some(Spot::Mark(_)) => BLANK,
         Some(Spot::Cell(_, _)) => CELL,
         None => LINE_END,
@@ -55,13 +63,12 @@ fn character_at(shape: Shape, line: usize, column: usize) -> u8
 pub fn lay_out(shape: Shape, page: &mut [u8]) -> Result<usize, Refusal>
     ensures { λ r. ⌜ LaidOut (shape .rows) (shape .columns) (now (page .entry)) r (now (page .exit)) ⌝ }
 {
-    let width = 2 * shape.columns() + 2;
-    let size = (2 * shape.rows() + 1) * width;
+    let size = (2 * shape.rows() + 1) * width(shape);
     if page.len() < size {
         return Err(Refusal::ShortTable);
     }
     for k in 0..size {
-        page[k] = character_at(shape, k / width, k % width);
+        page[k] = character(shape, k);
     }
     Ok(size)
 }

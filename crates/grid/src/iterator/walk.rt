@@ -1,7 +1,7 @@
 // The positions of an entity, one by one.
 ghost use mathlib.Core.Path.{_≡_};
-ghost use mathlib.Core.List.{[]};
-ghost use Prim.Native.Nat.{_-_, _≤_, _<_};
+ghost use mathlib.Core.List.{[], _∷_};
+ghost use Prim.Native.Nat.{_+_, _≤_, _<_};
 ghost use Rattle.grid.specs.Positions.{block, positionsOf, Lists};
 ghost use Rattle.grid.specs.Cursors.{remaining, Steps};
 use super::EntityIterator;
@@ -31,10 +31,10 @@ impl EntityIterator {
         }
         match entity {
             Entity::Global => EntityIterator::over(0, rows, 0, columns),
-            Entity::Row(r) if r < MAX_COUNT => EntityIterator::over(r, r + 1, 0, columns),
-            Entity::Column(c) if c < MAX_COUNT => EntityIterator::over(0, rows, c, c + 1),
+            Entity::Row(r) if r < MAX_COUNT => EntityIterator::over(r, 1, 0, columns),
+            Entity::Column(c) if c < MAX_COUNT => EntityIterator::over(0, rows, c, 1),
             Entity::Cell(r, c) if r < MAX_COUNT && c < MAX_COUNT => {
-                EntityIterator::over(r, r + 1, c, c + 1)
+                EntityIterator::over(r, 1, c, 1)
             }
             _ => EntityIterator::done(),
         }
@@ -52,19 +52,32 @@ impl EntityIterator {
         }
     }
 
-    // The block of the rows from `top` and the columns from `left`, up to the two ends, which are left out.
-    fn over(top: usize, bottom: usize, left: usize, right: usize) -> Self
-        requires low { ⌜ bottom ≤ 128 ⌝ }
-        requires near { ⌜ right ≤ 128 ⌝ }
-        requires wide { ⌜ left < right ⌝ }
-        ensures { λ r. ⌜ remaining r ≡ block top (bottom - top) left (right - left) ⌝ }
+    // The block of so many rows from `top` on and so many columns from `left` on.
+    fn over(top: usize, rows: usize, left: usize, columns: usize) -> Self
+        requires low { ⌜ top + rows ≤ 128 ⌝ }
+        requires near { ⌜ left + columns ≤ 128 ⌝ }
+        requires wide { ⌜ 0 < columns ⌝ }
+        ensures { λ r. ⌜ remaining r ≡ block top rows left columns ⌝ }
     {
         EntityIterator {
             row: top,
             column: left,
             left,
-            right,
-            bottom,
+            right: left + columns,
+            bottom: top + rows,
+        }
+    }
+
+    // Goes on to the next position, in this row or at the start of the next one.
+    fn advance(&mut self)
+        requires { ⌜ now self .row < now self .bottom ⌝ }
+        ensures { λ _. ⌜ remaining (now (self .entry)) ≡ (now (self .entry) .row, now (self .entry) .column) ∷ remaining (now (self .exit)) ⌝ }
+    {
+        if self.column + 1 < self.right {
+            self.column += 1;
+        } else {
+            self.row += 1;
+            self.column = self.left;
         }
     }
 
@@ -76,12 +89,7 @@ impl EntityIterator {
             return None;
         }
         let found = Position::at(self.row, self.column);
-        if self.column + 1 < self.right {
-            self.column += 1;
-        } else {
-            self.row += 1;
-            self.column = self.left;
-        }
+        self.advance();
         Some(found)
     }
 }

@@ -1,7 +1,5 @@
-use Rattle.grid.specs.Cursors.{remaining}
-use Rattle.grid.proofs.Blocks.{rest-start}
+use Rattle.grid.proofs.Blocks.{rest-block}
 use Rattle.grid.proofs.iterator.EntityIterator.over.Needs as need
 
 pub returns : need.returns
-unfolding remaining
-returns c = rest-start (c .args .top) (c .args .left) (c .args .right) (c .args .bottom)
+returns c = rest-block (c .args .top) (c .args .rows) (c .args .left) (c .args .columns)
