@@ -1,8 +1,9 @@
 // One bit for each number below 16,384.
 ghost use mathlib.Core.Path.{_≡_};
-ghost use mathlib.Core.Bool.{false, _||_};
+ghost use mathlib.Core.Bool.{_||_};
 ghost use Prim.Native.Nat.{ℕ, _<_};
 ghost use lib.Dec.{eqb};
+ghost use lib.ListN.{replicate};
 ghost use Rattle.grid.specs.Bits.{bit};
 
 #[derive(Drop)]
@@ -13,7 +14,7 @@ pub struct BitTable {
 impl BitTable {
     // No bit is set.
     pub(crate) fn new() -> Self
-        ensures { λ r. ⌜ ((n : ℕ) → bit r n ≡ false) ⌝ }
+        ensures { λ r. ⌜ r .words ≡ replicate 256 0 ⌝ }
     {
         BitTable { words: [0; 256] }
     }

@@ -14,7 +14,7 @@ pub enum Refusal {
     ShortTable,
     // the sheet has no such place
     NoSuchPlace,
-    // a selector counted onward from the last row or column comes past the largest number
+    // counting onward from the last row or column passes the largest number
     PastLast,
     // a cell to be drawn round lies outside the sheet's shape
     OutsideShape,

@@ -1,4 +1,4 @@
-// The picture of a sheet: a line of points and across lines in turn, then a line of down lines and cells, and so on.
+// The picture of a sheet: lines of points and across lines, and between them lines of down lines and cells.
 ghost use mathlib.Core.Path.{_≡_};
 ghost use Prim.Native.Nat.{ℕ, _+_, _*_, _<_, _≤_};
 ghost use lib.ListN.{length, getD};
