@@ -16,7 +16,7 @@ pub enum Refusal {
     NoSuchPlace,
     // counting onward from the last row or column passes the largest number
     PastLast,
-    // a cell to be drawn round lies outside the sheet's shape
+    // a cell that a drawing asks for is not on the sheet
     OutsideShape,
     // the sheet is not open
     NotOpen,

@@ -1,9 +1,8 @@
 -- The three numbers that a line says.
 use mathlib.Core.Path.{_≡_, refl, sym, ap, subst, _∙_}
 use mathlib.Core.List.{List, _∷_, _++_}
-use Prim.Native.Nat.{ℕ, _<_, _≤_}
+use Prim.Native.Nat.{ℕ}
 use native.Mathlib.Omega.{arith}
-use lib.ListN.{length, getD}
 use Rattle.picture.specs.Lines.{Without, Cut}
 use Rattle.picture.specs.Requests.{Numeral, Says}
 use Rattle.picture.proofs.Cuts.{same-cut, no-cut}

@@ -24,7 +24,7 @@ returns c =
     let size : heightOf (c .rows .result) * c .width .result ≡ heightOf (s .rows) * widthOf (s .columns)
     = ap (λ n. heightOf n * c .width .result) (c .rows .ensures) ∙ ap (λ n. heightOf (s .rows) * n) (c .width .ensures) in (
       size,
-      c .if-page-size .left,
+      omega arith,
       c .loop-k .kept .page,
       whole-picture (s .rows) (s .columns) (c .loop-k .page) (λ i h. c .loop-k .inv .0 i (omega (arith, size))),
       λ i h. c .loop-k .inv .1 i (omega arith),
