@@ -1,4 +1,6 @@
 // The words that the sheet is spoken in: refusals, shapes, positions, entities, ranges, places, and sets of positions.
+#![tactic(auto)]
+
 mod bits;
 pub mod entity;
 pub mod iterator;

@@ -1,4 +1,6 @@
 // Tables of cases for the crate `grid`, each with the answer that its rules give.
+#![tactic(auto)]
+
 #[cfg(test)]
 mod tests {
     use grid::entity::Entity;

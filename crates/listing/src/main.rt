@@ -1,4 +1,6 @@
 // Prints what each selector of its input lists. A line is `rows columns selector`.
+#![tactic(auto)]
+
 mod print;
 mod words;
 

@@ -1,4 +1,6 @@
 // Tables of cases for the selectors, each with the entities or the refusal that its rules give.
+#![tactic(auto)]
+
 #[cfg(test)]
 mod limits;
 #[cfg(test)]

@@ -1,4 +1,6 @@
 // Reads lines `rows columns choice` and prints the picture that each asks for, or why it is refused.
+#![tactic(auto)]
+
 use picture::respond::respond;
 use picture::text::Lines;
 use std::io;
