@@ -1,14 +1,14 @@
 -- What shows the two laws of a selector: no number above 127, and no position twice.
-use Rattle.std.specs.Prelude.{◌≡◌, ℕ, zero, suc, ◌+◌, ◌<◌, ◌≤◌, Bool, true, false, cond, ◌&&◌, ◌||◌, ◌⊎◌, List, [], ◌∷◌, ◌++◌, map, ◌≢◌, nat_lt, refl}
-use Rattle.std.proofs.Common.{sym, ap, subst, ◌∙◌, inl, inr, ⊎_elim, append-nil, arith}
+use Rattle.std.specs.Prelude.{◌≡◌, ℕ, zero, suc, ◌+◌, ◌<◌, true, false, List, [], ◌∷◌, ◌++◌, map, ◌≢◌, nat_lt, refl}
+use Rattle.std.proofs.Common.{sym, ap, subst, ◌∙◌, ⊎_elim, append-nil, arith}
 use Rattle.std.specs.List.{range_with_len, AllByRecursion as All}
 use Rattle.std.proofs.lemmas.Bool.{both_ways, cases_Bool, or_cases, or_left, or_right, or_from, or_parts, and_from, lt-ltb, ltb-true, cond_both}
 use Rattle.std.proofs.ByRecursion.{All-map}
 use Rattle.grid.specs.declared.shape.Shape.{Shape}
 use Rattle.grid.specs.declared.entity.Entity.{Entity}
-use Rattle.grid.specs.declared.entity.Entity.TheVariants.{Global, Row, Column, Cell}
+use Rattle.grid.specs.declared.entity.Entity.TheVariants.{Row, Column}
 use Rattle.grid.specs.declared.refusal.Refusal.TheVariants.{OutOfRange}
-use Rattle.grid.specs.Positions.{Coordinates, same, member, positions_of, LiesIn, Before, InRowOrder, Lists, is_small}
+use Rattle.grid.specs.Positions.{Coordinates, same, member, positions_of, Before, InRowOrder, is_small}
 use Rattle.grid.proofs.Listings.{member-append, lists, same_self}
 use Rattle.object.specs.Meanings.{Meaning, refused, listed, entities, positions, Bounded, Distinct}
 use Rattle.object.specs.Cells.{up_to_127, cell_at, cell_means, position_means}

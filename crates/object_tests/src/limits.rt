@@ -9,6 +9,7 @@ use ranged::rows::Rows;
 use ranged::segment::Segment;
 use single::columns::{Column, FirstColumn, LastColumn};
 use single::rows::{FirstRow, LastRow, Row};
+use std::test::Fail;
 
 const TOO_LARGE: [usize; 3] = [128, 129, usize::MAX];
 

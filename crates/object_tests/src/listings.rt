@@ -9,6 +9,7 @@ use ranged::columns::Columns;
 use ranged::frame::Frame;
 use ranged::rows::Rows;
 use ranged::segment::Segment;
+use std::test::Fail;
 
 #[test]
 fn firsts_and_lasts(rt: HostRuntime) -> Result<(), Fail> {

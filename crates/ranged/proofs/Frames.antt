@@ -1,9 +1,9 @@
 -- Which cells lie on the edge of a grid, and in which order.
-use Rattle.std.proofs.Common.{◌≡◌, ℕ, ◌+◌, ◌<◌, ◌&&◌, ◌||◌, eqb, Decides, refl, arith}
+use Rattle.std.proofs.Common.{ℕ, ◌+◌, Decides, refl, arith}
 use Rattle.std.proofs.lemmas.Bool.Decides.{Decides-at, Decides-like, Decides-and, Decides-or, Decides-eqb}
 use Rattle.grid.specs.declared.shape.Shape.{Shape}
 use Rattle.grid.specs.declared.entity.Entity.TheVariants.{Global}
-use Rattle.grid.specs.Positions.{member, positions_of}
+use Rattle.grid.specs.Positions.{positions_of}
 use Rattle.grid.proofs.Listings.{lists}
 use Rattle.object.specs.Kept.{member_kept, order_kept}
 use Rattle.ranged.specs.Ranged.{is_on_edge, edge_of, OnEdge, ListsFrame}

@@ -1,21 +1,21 @@
 -- The two laws of the selectors over ranges, and of the frame.
-use Rattle.std.specs.Prelude.{◌≡◌, ℕ, zero, suc, ◌+◌, ◌-◌, ◌<◌, ◌≤◌, Bool, true, false, cond, ◌&&◌, ◌||◌, List, [], ◌∷◌, map, IfOk, Ok, Err, Result, nat_le, refl}
-use Rattle.std.proofs.Common.{⊎_elim, arith}
+use Rattle.std.specs.Prelude.{◌≡◌, ℕ, zero, suc, ◌+◌, ◌-◌, ◌<◌, ◌≤◌, true, ◌&&◌, List, [], ◌∷◌, map, IfOk, Ok, Err, Result, nat_le}
+use Rattle.std.proofs.Common.{arith}
 use Rattle.std.specs.List.{range_with_len, AllByRecursion as All}
 use Rattle.std.proofs.lemmas.Bool.{leb-true, lt-ltb, and_parts, and_from, or_left, or_right, cond_both}
 use Rattle.std.proofs.ByRecursion.{All-map, all_kept_by}
 use Rattle.grid.specs.declared.shape.Shape.{Shape}
 use Rattle.grid.specs.declared.range.Bound.{Bound}
 use Rattle.grid.specs.declared.entity.Entity.{Entity}
-use Rattle.grid.specs.declared.entity.Entity.TheVariants.{Global, Row, Column, Cell}
+use Rattle.grid.specs.declared.entity.Entity.TheVariants.{Global, Row, Column}
 use Rattle.grid.specs.declared.refusal.Refusal.{Refusal}
 use Rattle.grid.specs.declared.refusal.Refusal.TheVariants.{OutOfRange, StartExcluded}
 use Rattle.grid.specs.Positions.{Coordinates, same, member, is_small, positions_of, sector}
 use Rattle.grid.specs.Ranges.{is_excluded, first_from, first_past, resolved}
 use Rattle.grid.proofs.Listings.{same_self, lists, lists_sector}
-use Rattle.object.specs.Meanings.{Meaning, refused, listed}
+use Rattle.object.specs.Meanings.{Meaning, listed}
 use Rattle.object.specs.Cells.{cell_at}
-use Rattle.object.specs.Laws.{Lawful, Apart, distinct_each, distinct_ordered, row_tells, column_tells, apart_counting, each_cell}
+use Rattle.object.specs.Laws.{Lawful, distinct_each, distinct_ordered, row_tells, column_tells, apart_counting, each_cell}
 use Rattle.object.specs.Kept.{order_kept}
 use Rattle.ranged.specs.Ranged.{over, numbers, rows_means, columns_means, segment_means, is_on_edge, edge_of, frame_means}
 

@@ -3,7 +3,6 @@ use Rattle.std.specs.Prelude.{◌≡◌, ℕ, ◌+◌, ◌-◌, ◌<◌, Bool, �
 use Rattle.std.specs.List.{range_with_len}
 use Rattle.grid.specs.declared.shape.Shape.{Shape}
 use Rattle.grid.specs.declared.range.Bound.{Bound}
-use Rattle.grid.specs.declared.entity.Entity.{Entity}
 use Rattle.grid.specs.declared.entity.Entity.TheVariants.{Global, Row, Column}
 use Rattle.grid.specs.declared.refusal.Refusal.{Refusal}
 use Rattle.grid.specs.Positions.{Coordinates, member, InRowOrder, positions_of, sector}

@@ -1,5 +1,5 @@
 -- The two laws of the selectors of at most one entity.
-use Rattle.std.specs.Prelude.{◌≡◌, ℕ, ◌+◌, ◌-◌, ◌<◌, ◌≤◌, Bool, true, false, cond, List, [], ◌∷◌, ◌==◌, nat_lt, refl}
+use Rattle.std.specs.Prelude.{◌≡◌, ℕ, ◌+◌, ◌-◌, ◌<◌, ◌≤◌, true, cond, [], ◌∷◌, ◌==◌, nat_lt, refl}
 use Rattle.std.proofs.Common.{arith}
 use Rattle.std.proofs.lemmas.Bool.{lt-ltb, ltb-true, cond_both}
 use Rattle.grid.specs.declared.shape.Shape.{Shape}
@@ -7,7 +7,7 @@ use Rattle.grid.specs.declared.entity.Entity.{Entity}
 use Rattle.grid.specs.declared.entity.Entity.TheVariants.{Global, Row, Column}
 use Rattle.grid.specs.declared.refusal.Refusal.TheVariants.{PastLast}
 use Rattle.grid.specs.Positions.{is_empty, is_small}
-use Rattle.object.specs.Meanings.{Meaning, refused, listed}
+use Rattle.object.specs.Meanings.{refused, listed}
 use Rattle.object.specs.Laws.{Lawful, one, up_to}
 use Rattle.single.specs.declared.offset.Offset.{Offset}
 use Rattle.single.specs.declared.offset.Offset.TheVariants.{Plus, Minus}

@@ -1,5 +1,5 @@
 -- What the selectors of at most one entity mean.
-use Rattle.std.specs.Prelude.{ℕ, ◌+◌, ◌-◌, cond, List, [], ◌∷◌, Some, None, Ok, Err, Option, Result, ◌==◌, nat_lt}
+use Rattle.std.specs.Prelude.{ℕ, ◌+◌, ◌-◌, cond, [], ◌∷◌, Some, None, Ok, Err, Option, Result, ◌==◌, nat_lt}
 use Rattle.grid.specs.declared.shape.Shape.{Shape}
 use Rattle.grid.specs.declared.entity.Entity.{Entity}
 use Rattle.grid.specs.declared.entity.Entity.TheVariants.{Global, Row, Column}
