@@ -2,7 +2,7 @@
 use Rattle.std.specs.Prelude.{◌≡◌, ℕ, zero, suc, ◌+◌, ◌-◌, ◌≤◌, min, true}
 use Rattle.std.proofs.Common.{ap, inl, ⊎_elim, arith}
 use Rattle.std.proofs.Math.Nat.{min-le_left, min-le_right}
-use Rattle.std.specs.List.{AllByRecursion as All}
+use Rattle.std.specs.List.{AllByRecursion}
 use Rattle.std.proofs.lemmas.Bool.{false≢true, and_from, lt-ltb, or_cases}
 use Rattle.grid.specs.declared.shape.Shape.{Shape}
 use Rattle.grid.specs.Positions.{Coordinates, same, member, is_small, InRowOrder}
@@ -11,7 +11,7 @@ use Rattle.object.specs.Kept.{same_is}
 use Rattle.object.specs.Laws.{Lawful, up_to, each_cell, distinct_ordered}
 use Rattle.diagonal.specs.Diagonals.{diagonal, diagonal_means}
 
-all_small : (r c n : ℕ) → r + n ≤ 128 → c + n ≤ 128 → All (λ p. is_small (cell_at p) ≡ true) (diagonal r c n)
+all_small : (r c n : ℕ) → r + n ≤ 128 → c + n ≤ 128 → AllByRecursion (λ p. is_small (cell_at p) ≡ true) (diagonal r c n)
 all_small r c zero h k = tt
 all_small r c (suc n) h k = (and_from _ _ (lt-ltb r 128 (omega arith)) (lt-ltb c 128 (omega arith)), all_small (r + 1) (c + 1) n (omega arith) (omega arith))
 

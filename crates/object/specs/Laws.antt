@@ -1,7 +1,7 @@
 -- What shows the two laws of a selector: no number above 127, and no position twice.
 use Rattle.std.specs.Prelude.{◌≡◌, ℕ, zero, suc, ◌+◌, ◌<◌, true, false, List, [], ◌∷◌, ◌++◌, map, ◌≢◌, nat_lt, refl}
 use Rattle.std.proofs.Common.{sym, ap, subst, ◌∙◌, ⊎_elim, append-nil, arith}
-use Rattle.std.specs.List.{range_with_len, AllByRecursion as All}
+use Rattle.std.specs.List.{range_with_len, AllByRecursion}
 use Rattle.std.proofs.lemmas.Bool.{both_ways, cases_Bool, or_cases, or_left, or_right, or_from, or_parts, and_from, lt-ltb, ltb-true, cond_both}
 use Rattle.std.proofs.ByRecursion.{All-map}
 use Rattle.grid.specs.declared.shape.Shape.{Shape}
@@ -42,12 +42,12 @@ distinct_single s e = subst Distinct (sym (append-nil (positions_of s e))) (dist
 -- no element comes twice
 abbrev pub Apart : {X : Type 0} → List X → Type 0
 Apart [] = Unit {0}
-Apart (x ∷ xs) = All (λ y. x ≢ y) xs × Apart xs
+Apart (x ∷ xs) = AllByRecursion (λ y. x ≢ y) xs × Apart xs
 
 -- Entities that are made of one thing each, where a position in one of them tells what that one was made of.
 module _ {X : Type 0} (s : Shape) (make : X → Entity) (of : Coordinates → X)
     (tells : (x : X) (p : Coordinates) → member p (positions_of s (make x)) ≡ true → of p ≡ x) where
-  one_of : (x : X) (xs : List X) (p : Coordinates) → All (λ y. x ≢ y) xs → of p ≡ x → member p (positions s (map make xs)) ≢ true
+  one_of : (x : X) (xs : List X) (p : Coordinates) → AllByRecursion (λ y. x ≢ y) xs → of p ≡ x → member p (positions s (map make xs)) ≢ true
   one_of x [] p apart is e = both_ways false refl e
   one_of x (y ∷ ys) p apart is e =
       ⊎_elim (λ h. apart.0 (sym is ∙ tells y p h)) (one_of x ys p apart.1 is)
@@ -66,7 +66,7 @@ row_tells s r p e = (((lists s (Row r)).exactly p.0 p.1).0 e).3.0
 pub column_tells : (s : Shape) (c : ℕ) (p : Coordinates) → member p (positions_of s (Column c)) ≡ true → p.1 ≡ c
 column_tells s c p e = (((lists s (Column c)).exactly p.0 p.1).0 e).3.1
 
-apart_from : (x a n : ℕ) → x < a → All (λ y. x ≢ y) (range_with_len a n)
+apart_from : (x a n : ℕ) → x < a → AllByRecursion (λ y. x ≢ y) (range_with_len a n)
 apart_from x a zero h = tt
 apart_from x a (suc n) h = ((λ e. omega arith), apart_from x (a + 1) n (omega arith))
 
@@ -76,7 +76,7 @@ apart_counting a zero = tt
 apart_counting a (suc n) = (apart_from a (a + 1) n (omega arith), apart_counting (a + 1) n)
 
 -- each element of a list whose positions are distinct is another one
-all_other : (p : Coordinates) (ps : List Coordinates) → member p ps ≡ false → All (λ q. p ≢ q) ps
+all_other : (p : Coordinates) (ps : List Coordinates) → member p ps ≡ false → AllByRecursion (λ q. p ≢ q) ps
 all_other p [] h = tt
 all_other p (q ∷ qs) h =
     let parts = or_parts (same p q) (member p qs) h in
@@ -108,7 +108,7 @@ pub cell : (s : Shape) (r c : ℕ) → Lawful s (cell_means r c)
 cell s r c = up_to s r _ (λ h. up_to s c _ (λ k. position s (r, c) h k))
 
 -- cells, each at another position
-pub each_cell : (s : Shape) (ps : List Coordinates) → All (λ p. is_small (cell_at p) ≡ true) ps → Distinct ps → Lawful s (listed (map cell_at ps))
+pub each_cell : (s : Shape) (ps : List Coordinates) → AllByRecursion (λ p. is_small (cell_at p) ≡ true) ps → Distinct ps → Lawful s (listed (map cell_at ps))
 each_cell s ps small apart = (
   All-map (λ e. is_small e ≡ true) cell_at ps small,
   distinct_each s cell_at (λ p. p) (cell_tells s) ps (apart_distinct ps apart),

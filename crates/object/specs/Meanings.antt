@@ -1,6 +1,6 @@
 -- What a selector means on a shape.
 use Rattle.std.specs.Prelude.{◌≡◌, true, false, List, [], ◌∷◌, ◌++◌, Ok, Err, Option, Result}
-use Rattle.std.specs.List.{AllByRecursion as All}
+use Rattle.std.specs.List.{AllByRecursion}
 use Rattle.grid.specs.declared.shape.Shape.{Shape}
 use Rattle.grid.specs.declared.entity.Entity.{Entity}
 use Rattle.grid.specs.declared.refusal.Refusal.{Refusal}
@@ -29,7 +29,7 @@ positions s (e ∷ es) = positions_of s e ++ positions s es
 
 -- no number of the entities is above 127
 abbrev pub Bounded : List Entity → Type 0
-Bounded es = All (λ e. is_small e ≡ true) es
+Bounded es = AllByRecursion (λ e. is_small e ≡ true) es
 
 -- no position comes twice
 abbrev pub Distinct : List Coordinates → Type 0

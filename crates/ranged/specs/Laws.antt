@@ -1,7 +1,7 @@
 -- The two laws of the selectors over ranges, and of the frame.
 use Rattle.std.specs.Prelude.{◌≡◌, ℕ, zero, suc, ◌+◌, ◌-◌, ◌<◌, ◌≤◌, true, ◌&&◌, List, [], ◌∷◌, map, IfOk, Ok, Err, Result, nat_le}
 use Rattle.std.proofs.Common.{arith}
-use Rattle.std.specs.List.{range_with_len, AllByRecursion as All}
+use Rattle.std.specs.List.{range_with_len, AllByRecursion}
 use Rattle.std.proofs.lemmas.Bool.{leb-true, lt-ltb, and_parts, and_from, or_left, or_right, cond_both}
 use Rattle.std.proofs.ByRecursion.{All-map, all_kept_by}
 use Rattle.grid.specs.declared.shape.Shape.{Shape}
@@ -37,7 +37,7 @@ lawful_over s (Ok p) means h each = each p h
 module _ (s : Shape) (make : ℕ → Entity) (of : Coordinates → ℕ)
     (tells : (n : ℕ) (p : Coordinates) → member p (positions_of s (make n)) ≡ true → of p ≡ n)
     (small : (n : ℕ) → n < 128 → is_small (make n) ≡ true) where
-  small_each : (ns : List ℕ) → All (λ n. n < 128) ns → All (λ n. is_small (make n) ≡ true) ns
+  small_each : (ns : List ℕ) → AllByRecursion (λ n. n < 128) ns → AllByRecursion (λ n. is_small (make n) ≡ true) ns
   small_each [] h = tt
   small_each (n ∷ ns) h = (small n h.0, small_each ns h.1)
 
@@ -47,11 +47,11 @@ module _ (s : Shape) (make : ℕ → Entity) (of : Coordinates → ℕ)
     distinct_each s make of tells (numbers p) (apart_counting p.0 (p.1 - p.0)),
   )
     where
-      below_more : (a n : ℕ) (q : ℕ) → q ≤ 128 → n ≤ q - a → All (λ k. k < 128) (range_with_len a n)
+      below_more : (a n : ℕ) (q : ℕ) → q ≤ 128 → n ≤ q - a → AllByRecursion (λ k. k < 128) (range_with_len a n)
       below_more a zero q h k = tt
       below_more a (suc n) q h k = (omega arith, below_more (a + 1) n q h (omega arith))
 
-      below : (p : ℕ × ℕ) → p.1 ≤ 128 → All (λ k. k < 128) (numbers p)
+      below : (p : ℕ × ℕ) → p.1 ≤ 128 → AllByRecursion (λ k. k < 128) (numbers p)
       below p h = below_more p.0 (p.1 - p.0) p.1 h (omega arith)
 
 pub rows : (range : Bound × Bound) (s : Shape) → Lawful s (rows_means range s)
@@ -65,7 +65,7 @@ columns range s =
     (numbered s Column (λ p. p.1) (column_tells s) (λ n h. lt-ltb n 128 h))
 
 -- what holds of each position that a list has
-all_member : (P : Coordinates → Type 0) (ps : List Coordinates) → ((p : Coordinates) → member p ps ≡ true → P p) → All P ps
+all_member : (P : Coordinates → Type 0) (ps : List Coordinates) → ((p : Coordinates) → member p ps ≡ true → P p) → AllByRecursion P ps
 all_member P [] h = tt
 all_member P (p ∷ ps) h = (h p (or_left (same p p) (member p ps) (same_self p)), all_member P ps (λ q e. h q (or_right (same q p) (member q ps) e)))
 
