@@ -1,7 +1,6 @@
 // The cells of a range of rows and a range of columns.
 ghost use Rattle.std.specs.Prelude.{◌≡◌, map};
 ghost use Rattle.grid.specs.Cursors.{remaining as positions_left};
-ghost use Rattle.grid.specs.Positions.{sector};
 ghost use Rattle.object.specs.Cells.{cell_at};
 ghost use Rattle.ranged.specs.Ranged.{segment_means, sector_of};
 ghost use Rattle.ranged.specs.Laws.{segment};
