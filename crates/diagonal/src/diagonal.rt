@@ -52,7 +52,7 @@ impl Diagonal {
 
     // Whether the diagonal has this position on a shape.
     pub fn contains(&self, position: Position, shape: Shape) -> Result<bool, Refusal>
-        ensures { MatchResult result (λ b. b ≡ member (coordinates position) (positions shape (entities (diagonal_means self.now.column shape)))) (λ e. verdict (diagonal_means self.now.column shape) ≡ Err e) }
+        ensures { MatchResult result (λ b. (verdict (diagonal_means self.now.column shape) ≡ Ok tt) × (b ≡ member (coordinates position) (positions shape (entities (diagonal_means self.now.column shape))))) (λ e. verdict (diagonal_means self.now.column shape) ≡ Err e) }
     {
         let set = selected(self, shape)?;
         Ok(set.contains(position))
