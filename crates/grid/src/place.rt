@@ -1,5 +1,5 @@
 // A place of a sheet that can hold a mark.
-#[derive(Clone, Copy)]
+#[derive(Clone, Copy, Debug, PartialEq, Eq)]
 pub enum Place {
     // the line between the cells (row - 1, column) and (row, column)
     Across(usize, usize),

@@ -6,7 +6,7 @@ use crate::refusal::Refusal;
 // No sheet has more rows or columns than this.
 pub const MAX_COUNT: usize = 128;
 
-#[derive(Clone, Copy)]
+#[derive(Clone, Copy, Debug, PartialEq, Eq)]
 pub struct Shape {
     rows: usize,
     columns: usize,
