@@ -1,8 +1,7 @@
 -- What is left of a block, step by step.
-use Rattle.std.proofs.Common.{◌≡◌, ℕ, zero, suc, ◌+◌, ◌-◌, ◌<◌, ◌≤◌, ltb, ◌⊎◌, List, [], ◌∷◌, ◌++◌, sym, refl, ap, ◌∙◌, ⊎_elim, arith}
+use Rattle.std.proofs.Common.{◌≡◌, ℕ, zero, suc, ◌+◌, ◌-◌, ◌<◌, ◌≤◌, ltb, [], ◌∷◌, ◌++◌, sym, refl, ap, ◌∙◌, ⊎_elim, arith}
 use Rattle.std.proofs.lemmas.Bool.{cases_lt, lt-ltb, le-ltb, cond-true, cond-false}
-use Rattle.grid.specs.declared.position.Position.{Position}
-use Rattle.grid.specs.Positions.{Coordinates, coordinates, line, block}
+use Rattle.grid.specs.Positions.{line, block}
 use Rattle.grid.specs.Cursors.{rest}
 
 pub rest_none : (row column left right bottom : ℕ) → bottom ≤ row → rest row column left right bottom ≡ []
@@ -21,14 +20,6 @@ rest_start top left right bottom =
     (λ h. let n : bottom - top ≡ 0 = omega arith in
     rest_none top left left right bottom h ∙ ap (λ k. block top k left (right - left)) (sym n))
     (cases_lt top bottom)
-
--- a whole block, by how many rows and columns it has
-pub rest-block : (top rows left columns : ℕ) → rest top left left (left + columns) (top + rows) ≡ block top rows left columns
-rest-block top rows left columns =
-    let n : top + rows - top ≡ rows = omega arith in
-    let m : left + columns - left ≡ columns = omega arith in
-    rest_start top left (left + columns) (top + rows)
-    ∙ ap (λ k. block top k left (left + columns - left)) n ∙ ap (block top rows left) m
 
 first_of_line : (row column right : ℕ) → column < right → line row column (right - column) ≡ (row, column) ∷ line row (column + 1) (right - (column + 1))
 first_of_line row column right h =
@@ -51,18 +42,11 @@ rest_turn row column left right bottom h k last =
     ∙ ap (λ xs. xs ++ block (row + 1) (bottom - (row + 1)) left (right - left)) (first_of_line row column right k ∙ ap (λ m. (row, column) ∷ line row (column + 1) m) n)
     ∙ ap (λ xs. (row, column) ∷ xs) (sym (rest_start (row + 1) left right bottom))
 
--- the same list, by the position that a step gives
-pub first_is : (row column : ℕ) (p : Position) (xs : List Coordinates) → (p.row ≡ row) × (p.column ≡ column) → (row, column) ∷ xs ≡ coordinates p ∷ xs
-first_is row column p xs e = ap (λ r. (r, column) ∷ xs) (sym e.0) ∙ ap (λ k. (p.row, k) ∷ xs) (sym e.1)
-
 -- a block without columns
 pub block_narrow : (r n c : ℕ) → block r n c 0 ≡ []
 block_narrow r zero c = refl
 block_narrow r (suc n) c = block_narrow (r + 1) n c
 
--- a block that ends before it begins
-pub block_none : (top bottom left right : ℕ) → (bottom ≤ top) ⊎ (right ≤ left) → [] ≡ block top (bottom - top) left (right - left)
-block_none top bottom left right =
-    ⊎_elim
-    (λ h. let n : bottom - top ≡ 0 = omega arith in sym (ap (λ k. block top k left (right - left)) n))
-    (λ h. let n : right - left ≡ 0 = omega arith in sym (ap (block top (bottom - top) left) n ∙ block_narrow top (bottom - top) left))
+-- a block whose columns end before they begin
+pub block_none : (top n left right : ℕ) → right ≤ left → [] ≡ block top n left (right - left)
+block_none top n left right h = let m : right - left ≡ 0 = omega arith in sym (ap (block top n left) m ∙ block_narrow top n left)

@@ -1,20 +1,17 @@
 -- Which positions an entity has, and in which order.
-use Rattle.std.proofs.Common.{◌≡◌, ℕ, zero, suc, ◌+◌, ◌-◌, ◌<◌, ◌≤◌, min, Bool, true, false, cond, not, ◌&&◌, ◌||◌, eqb, ◌⊎◌, List, [], ◌∷◌, ◌++◌, Decides, sym, refl, ap, ◌∙◌, inl, inr, ⊎_elim, arith}
+use Rattle.std.proofs.Common.{◌≡◌, ℕ, zero, suc, ◌+◌, ◌-◌, ◌<◌, ◌≤◌, min, true, false, cond, not, ◌&&◌, ◌||◌, eqb, ◌⊎◌, List, [], ◌∷◌, ◌++◌, Decides, sym, refl, ap, ◌∙◌, inl, inr, ⊎_elim, arith}
+use Rattle.std.proofs.Math.Bool.{or_assoc}
 use native.Mathlib.Nat.{min-le_left, min-le_right, le-min}
-use Rattle.std.proofs.lemmas.Bool.{false≢true, eq-eqb, or_cases, or_left, or_right, and_parts, and_from, cases_eq}
+use Rattle.std.proofs.lemmas.Bool.{false≢true, eq-eqb, or_cases, or_left, or_right, and_parts, and_from, cases_eq, ltb-true}
 use Rattle.std.proofs.lemmas.Bool.Decides.{Decides-like, Decides-and, Decides-or, Decides-not, Decides-eqb, Decides-at}
 use Rattle.grid.specs.declared.shape.Shape.{Shape}
 use Rattle.grid.specs.declared.entity.Entity.{Entity}
 use Rattle.grid.specs.declared.entity.Entity.TheVariants.{Global, Row, Column, Cell}
 use Rattle.grid.specs.Positions.{Coordinates, same, line, block, is_empty, is_small, covered, positions_of, member, LiesIn, Before, InRowOrder, Lists, sector, InRange, ListsSector}
 
-or_assoc : (x y z : Bool) → (x || (y || z)) ≡ ((x || y) || z)
-or_assoc true y z = refl
-or_assoc false y z = refl
-
 pub member-append : (p : Coordinates) (xs ys : List Coordinates) → member p (xs ++ ys) ≡ (member p xs || member p ys)
 member-append p [] ys = refl
-member-append p (x ∷ xs) ys = ap (λ t. same p x || t) (member-append p xs ys) ∙ or_assoc (same p x) (member p xs) (member p ys)
+member-append p (x ∷ xs) ys = ap (λ t. same p x || t) (member-append p xs ys) ∙ sym (or_assoc (same p x) (member p xs) (member p ys))
 
 decides_same : (a b r c : ℕ) → Decides (same (a, b) (r, c)) ((a ≡ r) × (b ≡ c))
 decides_same a b r c = Decides-and (eqb a r) (eqb b c) (Decides-eqb a r) (Decides-eqb b c)
@@ -69,54 +66,6 @@ order_block r (suc n) c m =
     order_append (line r c m) (block (r + 1) n c m) (order_line r c m) (order_block (r + 1) n c m)
     (λ p q mp mq. let h = (in_line p.0 p.1 r c m).0 mp in let k = (in_block q.0 q.1 (r + 1) n c m).0 mq in inl (omega (arith, h.0, k.0)))
 
-in_covered : (s : Shape) (e : Entity) (a b : ℕ) → Decides (member (a, b) (covered s e)) (LiesIn s e a b)
-in_covered s Global a b =
-    Decides-like _ (λ h. (omega (arith, h.1), omega (arith, h.3))) (λ h. (omega arith, omega (arith, h.0), omega arith, omega (arith, h.1)))
-    (in_block a b 0 s.rows 0 s.columns)
-in_covered s (Row r) a b =
-    Decides-like _ (λ h. (omega (arith, h.0, h.1), omega (arith, h.3))) (λ h. (omega (arith, h.0), omega (arith, h.0), omega arith, omega (arith, h.1)))
-    (in_block a b r 1 0 s.columns)
-in_covered s (Column c) a b =
-    Decides-like _ (λ h. (omega (arith, h.1), omega (arith, h.2, h.3))) (λ h. (omega arith, omega (arith, h.0), omega (arith, h.1), omega (arith, h.1)))
-    (in_block a b 0 s.rows c 1)
-in_covered s (Cell r c) a b =
-    Decides-like _ (λ h. (omega (arith, h.0, h.1), omega (arith, h.2, h.3))) (λ h. (omega (arith, h.0), omega (arith, h.0), omega (arith, h.1), omega (arith, h.1)))
-    (in_block a b r 1 c 1)
-
-order_covered : (s : Shape) (e : Entity) → InRowOrder (covered s e)
-order_covered s Global = order_block 0 s.rows 0 s.columns
-order_covered s (Row r) = order_block r 1 0 s.columns
-order_covered s (Column c) = order_block 0 s.rows c 1
-order_covered s (Cell r c) = order_block r 1 c 1
-
-not_empty : (s : Shape) → Decides (not (is_empty s)) ((0 < s.rows) × (0 < s.columns))
-not_empty s =
-    Decides-like (not (is_empty s))
-    (λ h. (above s.rows (λ e. h (inl e)), above s.columns (λ e. h (inr e))))
-    (λ h. ⊎_elim (λ e. omega (arith, h.0)) (λ e. omega (arith, h.1)))
-    (Decides-not (is_empty s) (Decides-or (eqb s.rows 0) (eqb s.columns 0) (Decides-eqb s.rows 0) (Decides-eqb s.columns 0)))
-  where
-    above : (n : ℕ) → (n ≡ 0 → ⊥) → 0 < n
-    above n h = omega arith
-
--- the list that means an entity is the entity's, row by row
-pub lists : (s : Shape) (e : Entity) → Lists s e (positions_of s e)
-lists s e =
-    elim (not (is_empty s) && is_small e) as (λ t. (not (is_empty s) && is_small e) ≡ t → Lists s e (cond t (covered s e) [])) [
-      | true ↦ λ yes'.
-          let parts = and_parts (not (is_empty s)) (is_small e) yes' in
-          let some = (not_empty s).0 parts.0 in
-          record {
-            exactly = λ a b. Decides-like (member (a, b) (covered s e)) (λ h. (some.0, some.1, parts.1, h)) (λ h. h.3) (in_covered s e a b);
-            ordered = order_covered s e;
-          }
-      | false ↦ λ no'.
-          record {
-            exactly = λ a b. (λ h. absurd (false≢true h), λ h. sym no' ∙ and_from (not (is_empty s)) (is_small e) ((not_empty s).1 (h.0, h.1)) h.2);
-            ordered = tt;
-          }
-    ] refl
-
 in_range : (x y n k : ℕ) → (x ≤ n) × (n < x + (k - x)) → k ≡ min y 128 → InRange (x, y) n
 in_range x y n k h e = (h.0, omega (arith, h.0, h.1, min-le_left y 128), omega (arith, h.0, h.1, min-le_right y 128))
 
@@ -136,3 +85,62 @@ lists_sector rows columns =
   where
     below : (x y k : ℕ) → InRange (x, y) k → k < x + (min y 128 - x)
     below x y k h = omega (arith, h.0, le-min h.1 h.2)
+
+-- rows or columns that an entity names or goes through
+one_number : (r a : ℕ) → InRange (r, r + 1) a → a ≡ r
+one_number r a h = omega (arith, h.0, h.1)
+
+in_one : (r a : ℕ) → r < 128 → a ≡ r → InRange (r, r + 1) a
+in_one r a small e = (omega arith, omega arith, omega arith)
+
+in_all : (n a : ℕ) → n ≤ 128 → a < n → InRange (0, n) a
+in_all n a few h = (omega arith, h, omega arith)
+
+in_covered : (s : Shape) (e : Entity) → is_small e ≡ true → (a b : ℕ) → Decides (member (a, b) (covered s e)) (LiesIn s e a b)
+in_covered s Global small a b =
+    Decides-like _ (λ h. (h.0.1, h.1.1)) (λ h. (in_all s.rows a s.tall h.0, in_all s.columns b s.wide h.1))
+    ((lists_sector (0, s.rows) (0, s.columns)).exactly a b)
+in_covered s (Row r) small a b =
+    Decides-like _ (λ h. (one_number r a h.0, h.1.1)) (λ h. (in_one r a (ltb-true r 128 small) h.0, in_all s.columns b s.wide h.1))
+    ((lists_sector (r, r + 1) (0, s.columns)).exactly a b)
+in_covered s (Column c) small a b =
+    Decides-like _ (λ h. (h.0.1, one_number c b h.1)) (λ h. (in_all s.rows a s.tall h.0, in_one c b (ltb-true c 128 small) h.1))
+    ((lists_sector (0, s.rows) (c, c + 1)).exactly a b)
+in_covered s (Cell r c) small a b =
+    let parts = and_parts _ _ small in
+    Decides-like _ (λ h. (one_number r a h.0, one_number c b h.1)) (λ h. (in_one r a (ltb-true r 128 parts.0) h.0, in_one c b (ltb-true c 128 parts.1) h.1))
+    ((lists_sector (r, r + 1) (c, c + 1)).exactly a b)
+
+order_covered : (s : Shape) (e : Entity) → InRowOrder (covered s e)
+order_covered s Global = (lists_sector (0, s.rows) (0, s.columns)).ordered
+order_covered s (Row r) = (lists_sector (r, r + 1) (0, s.columns)).ordered
+order_covered s (Column c) = (lists_sector (0, s.rows) (c, c + 1)).ordered
+order_covered s (Cell r c) = (lists_sector (r, r + 1) (c, c + 1)).ordered
+
+not_empty : (s : Shape) → Decides (not (is_empty s)) ((0 < s.rows) × (0 < s.columns))
+not_empty s =
+    Decides-like (not (is_empty s))
+    (λ h. (above s.rows (λ e. h (inl e)), above s.columns (λ e. h (inr e))))
+    (λ h. ⊎_elim (λ e. omega (arith, h.0)) (λ e. omega (arith, h.1)))
+    (Decides-not (is_empty s) (Decides-or (eqb s.rows 0) (eqb s.columns 0) (Decides-eqb s.rows 0) (Decides-eqb s.columns 0)))
+  where
+    above : (n : ℕ) → (n ≡ 0 → ⊥) → 0 < n
+    above n h = omega arith
+
+-- the list that means an entity is the entity's, row by row
+pub lists : (s : Shape) (e : Entity) → Lists s e (positions_of s e)
+lists s e =
+    elim (not (is_empty s) && is_small e) as (λ t. (not (is_empty s) && is_small e) ≡ t → Lists s e (cond t (covered s e) [])) [
+      | true ↦ λ yes'.
+          let parts = and_parts (not (is_empty s)) (is_small e) yes' in
+          let some = (not_empty s).0 parts.0 in
+          record {
+            exactly = λ a b. Decides-like (member (a, b) (covered s e)) (λ h. (some.0, some.1, parts.1, h)) (λ h. h.3) (in_covered s e parts.1 a b);
+            ordered = order_covered s e;
+          }
+      | false ↦ λ no'.
+          record {
+            exactly = λ a b. (λ h. absurd (false≢true h), λ h. sym no' ∙ and_from (not (is_empty s)) (is_small e) ((not_empty s).1 (h.0, h.1)) h.2);
+            ordered = tt;
+          }
+    ] refl

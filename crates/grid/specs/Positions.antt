@@ -28,6 +28,10 @@ block r (suc n) c m = line r c m ++ block (r + 1) n c m
 abbrev pub is_empty : Shape → Bool
 is_empty s = s.rows == 0 || s.columns == 0
 
+-- the cell at a position
+abbrev pub cell_at : Coordinates → Entity
+cell_at p = Cell p.0 p.1
+
 -- no number of the entity is above 127
 abbrev pub is_small : Entity → Bool
 is_small Global = true
@@ -35,12 +39,17 @@ is_small (Row r) = nat_lt r 128
 is_small (Column c) = nat_lt c 128
 is_small (Cell r c) = nat_lt r 128 && nat_lt c 128
 
+-- The positions with a row of the one range and a column of the other, row by row. A range is its first number and
+-- the one after its last; no position has a number above 127.
+abbrev pub sector : ℕ × ℕ → ℕ × ℕ → List Coordinates
+sector rows columns = block rows.0 (min rows.1 128 - rows.0) columns.0 (min columns.1 128 - columns.0)
+
 -- all of the grid, a row from the first column to the last, a column from the first row to the last, one cell
 abbrev pub covered : Shape → Entity → List Coordinates
-covered s Global = block 0 s.rows 0 s.columns
-covered s (Row r) = block r 1 0 s.columns
-covered s (Column c) = block 0 s.rows c 1
-covered s (Cell r c) = block r 1 c 1
+covered s Global = sector (0, s.rows) (0, s.columns)
+covered s (Row r) = sector (r, r + 1) (0, s.columns)
+covered s (Column c) = sector (0, s.rows) (c, c + 1)
+covered s (Cell r c) = sector (r, r + 1) (c, c + 1)
 
 -- A row, a column or a cell may lie outside the shape, but nothing has a position on an empty shape,
 -- and no position has a number above 127.
@@ -71,11 +80,6 @@ InRowOrder (p ∷ ps) = ((q : Coordinates) → member q ps ≡ true → Before p
 pub record Lists (s : Shape) (e : Entity) (ps : List Coordinates) : Type 0 where
   pub exactly : (a b : ℕ) → Decides (member (a, b) ps) ((0 < s.rows) × (0 < s.columns) × (is_small e ≡ true) × LiesIn s e a b)
   pub ordered : InRowOrder ps
-
--- The positions with a row of the one range and a column of the other, row by row. A range is its first number and
--- the one after its last; no position has a number above 127.
-abbrev pub sector : ℕ × ℕ → ℕ × ℕ → List Coordinates
-sector rows columns = block rows.0 (min rows.1 128 - rows.0) columns.0 (min columns.1 128 - columns.0)
 
 abbrev pub InRange : ℕ × ℕ → ℕ → Type 0
 InRange range n = (range.0 ≤ n) × (n < range.1) × (n < 128)

@@ -4,16 +4,14 @@ ghost use Rattle.grid.specs.Ranges.{resolved};
 
 use crate::refusal::Refusal;
 use crate::shape::MAX_COUNT;
-
-#[derive(Clone, Copy)]
-pub enum Bound {
-    Included(usize),
-    Excluded(usize),
-    Unbounded,
-}
+use std::ops::Bound;
 
 // The range's first number and the one after its last; an open end is the count.
-pub fn bounds_to_usize(start: Bound, end: Bound, count: usize) -> Result<(usize, usize), Refusal>
+pub fn bounds_to_usize(
+    start: Bound<usize>,
+    end: Bound<usize>,
+    count: usize,
+) -> Result<(usize, usize), Refusal>
     ensures { result ≡ resolved start end count }
 {
     match (start, end) {

@@ -14,8 +14,7 @@ pub struct PositionSet {
 
 // The number of a position's bit: row by row, 128 to a row.
 fn bit_number(position: Position) -> usize
-    ensures number { result ≡ position.row * 128 + position.column }
-    ensures within { result < 16384 }
+    ensures { result ≡ position.row * 128 + position.column }
 {
     position.row() * MAX_COUNT + position.column()
 }

@@ -15,6 +15,8 @@ pub struct Shape {
 }
 
 impl Shape {
+    ghost use Rattle.grid.specs.Positions.{is_empty};
+
     pub fn new(rows: usize, columns: usize) -> Result<Shape, Refusal>
         ensures { MatchResult result (λ s. (s.rows ≡ rows) × (s.columns ≡ columns)) (λ e. (e ≡ Refusal.OutOfRange) × (rows ≤ 128 → columns ≤ 128 → ⊥)) }
     {
@@ -35,6 +37,12 @@ impl Shape {
     {
         self.columns
     }
-}
 
-pub mod empty;
+    // Whether there are no rows or no columns.
+    pub fn is_empty(&self) -> bool
+        ensures { result ≡ is_empty self.now }
+    {
+        let Shape { rows, columns } = *self;
+        rows == 0 || columns == 0
+    }
+}
