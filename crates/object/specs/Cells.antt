@@ -1,25 +1,18 @@
--- What the selectors of one cell mean, and a cursor over at most one entity.
-use Rattle.std.specs.Prelude.{ℕ, cond, List, [], ◌∷◌, Some, None, Option, nat_lt}
+-- What the selectors of one cell mean.
+use Rattle.std.specs.Prelude.{ℕ, cond, Some, Ok, Err, Option, Result, nat_lt}
 use Rattle.grid.specs.declared.entity.Entity.{Entity}
 use Rattle.grid.specs.declared.entity.Entity.TheVariants.{Cell}
+use Rattle.grid.specs.declared.refusal.Refusal.{Refusal}
 use Rattle.grid.specs.declared.refusal.Refusal.TheVariants.{OutOfRange}
-use Rattle.grid.specs.Positions.{Coordinates}
-use Rattle.object.specs.Meanings.{Meaning, refused, listed}
-
-abbrev pub optional : Option Entity → List Entity
-optional None = []
-optional (Some e) = e ∷ []
+use Rattle.grid.specs.Positions.{Coordinates, cell_at}
 
 -- a number above 127 is out of range
-abbrev pub up_to_127 : ℕ → Meaning → Meaning
-up_to_127 n m = cond (nat_lt n 128) m (refused OutOfRange)
+abbrev pub up_to_127 : {X : Type 0} → ℕ → Result X Refusal → Result X Refusal
+up_to_127 n m = cond (nat_lt n 128) m (Err OutOfRange)
 
-abbrev pub cell_at : Coordinates → Entity
-cell_at p = Cell p.0 p.1
-
-abbrev pub cell_means : ℕ → ℕ → Meaning
-cell_means r c = up_to_127 r (up_to_127 c (listed (Cell r c ∷ [])))
+abbrev pub cell_meant : ℕ → ℕ → Result (Option Entity) Refusal
+cell_meant r c = up_to_127 r (up_to_127 c (Ok (Some (Cell r c))))
 
 -- a position has no number above 127
-abbrev pub position_means : Coordinates → Meaning
-position_means p = listed (cell_at p ∷ [])
+abbrev pub position_meant : Coordinates → Result (Option Entity) Refusal
+position_meant p = Ok (Some (cell_at p))

@@ -1,5 +1,5 @@
 -- What shows the two laws of a selector: no number above 127, and no position twice.
-use Rattle.std.specs.Prelude.{◌≡◌, ℕ, zero, suc, ◌+◌, ◌<◌, true, false, List, [], ◌∷◌, ◌++◌, map, ◌≢◌, nat_lt, refl}
+use Rattle.std.specs.Prelude.{◌≡◌, ℕ, zero, suc, ◌+◌, ◌<◌, true, false, List, [], ◌∷◌, ◌++◌, map, Some, None, Option, Ok, Err, Result, ◌≢◌, nat_lt, refl}
 use Rattle.std.proofs.Common.{sym, ap, subst, ◌∙◌, ⊎_elim, append-nil, arith}
 use Rattle.std.specs.List.{range_with_len, AllByRecursion}
 use Rattle.std.proofs.lemmas.Bool.{both_ways, cases_Bool, or_cases, or_left, or_right, or_from, or_parts, and_from, lt-ltb, ltb-true, cond_both}
@@ -7,11 +7,12 @@ use Rattle.std.proofs.ByRecursion.{All-map}
 use Rattle.grid.specs.declared.shape.Shape.{Shape}
 use Rattle.grid.specs.declared.entity.Entity.{Entity}
 use Rattle.grid.specs.declared.entity.Entity.TheVariants.{Row, Column}
+use Rattle.grid.specs.declared.refusal.Refusal.{Refusal}
 use Rattle.grid.specs.declared.refusal.Refusal.TheVariants.{OutOfRange}
-use Rattle.grid.specs.Positions.{Coordinates, same, member, positions_of, Before, InRowOrder, is_small}
+use Rattle.grid.specs.Positions.{Coordinates, same, member, positions_of, Before, InRowOrder, is_small, cell_at}
 use Rattle.grid.proofs.Listings.{member-append, lists, same_self}
-use Rattle.object.specs.Meanings.{Meaning, refused, listed, entities, positions, Bounded, Distinct}
-use Rattle.object.specs.Cells.{up_to_127, cell_at, cell_means, position_means}
+use Rattle.object.specs.Meanings.{Meaning, entities, at_most_one, positions, Bounded, Distinct}
+use Rattle.object.specs.Cells.{up_to_127, cell_meant, position_meant}
 
 never_before_itself : (p : Coordinates) → Before p p → ⊥
 never_before_itself p = ⊎_elim (λ h. omega arith) (λ h. omega (arith, h.1))
@@ -94,21 +95,27 @@ cell_tells s q p e =
 abbrev pub Lawful : Shape → Meaning → Type 0
 Lawful s m = Bounded (entities m) × Distinct (positions s (entities m))
 
--- one entity
-pub one : (s : Shape) (e : Entity) → is_small e ≡ true → Lawful s (listed (e ∷ []))
-one s e h = ((h, tt), distinct_single s e)
+-- one entity or none has no position twice
+pub distinct_at_most_one : (s : Shape) (m : Result (Option Entity) Refusal) → Distinct (positions s (entities (at_most_one m)))
+distinct_at_most_one s (Err e) = tt
+distinct_at_most_one s (Ok None) = tt
+distinct_at_most_one s (Ok (Some e)) = distinct_single s e
 
-pub up_to : (s : Shape) (n : ℕ) (m : Meaning) → (n < 128 → Lawful s m) → Lawful s (up_to_127 n m)
-up_to s n m h = cond_both (nat_lt n 128) m (refused OutOfRange) (Lawful s) (λ e. h (ltb-true n 128 e)) (λ e. (tt, tt))
+-- no number of an entity that may be refused is above 127
+abbrev pub Small : Result (Option Entity) Refusal → Type 0
+Small m = Bounded (entities (at_most_one m))
 
-pub position : (s : Shape) (p : Coordinates) → p.0 < 128 → p.1 < 128 → Lawful s (position_means p)
-position s p h k = one s (cell_at p) (and_from _ _ (lt-ltb p.0 128 h) (lt-ltb p.1 128 k))
+pub up_to : (n : ℕ) (m : Result (Option Entity) Refusal) → (n < 128 → Small m) → Small (up_to_127 n m)
+up_to n m h = cond_both (nat_lt n 128) m (Err OutOfRange) Small (λ e. h (ltb-true n 128 e)) (λ e. tt)
 
-pub cell : (s : Shape) (r c : ℕ) → Lawful s (cell_means r c)
-cell s r c = up_to s r _ (λ h. up_to s c _ (λ k. position s (r, c) h k))
+pub small_position : (p : Coordinates) → p.0 < 128 → p.1 < 128 → Small (position_meant p)
+small_position p h k = (and_from _ _ (lt-ltb p.0 128 h) (lt-ltb p.1 128 k), tt)
+
+pub small_cell : (r c : ℕ) → Small (cell_meant r c)
+small_cell r c = up_to r _ (λ h. up_to c _ (λ k. small_position (r, c) h k))
 
 -- cells, each at another position
-pub each_cell : (s : Shape) (ps : List Coordinates) → AllByRecursion (λ p. is_small (cell_at p) ≡ true) ps → Distinct ps → Lawful s (listed (map cell_at ps))
+pub each_cell : (s : Shape) (ps : List Coordinates) → AllByRecursion (λ p. is_small (cell_at p) ≡ true) ps → Distinct ps → Lawful s (Ok (map cell_at ps))
 each_cell s ps small apart = (
   All-map (λ e. is_small e ≡ true) cell_at ps small,
   distinct_each s cell_at (λ p. p) (cell_tells s) ps (apart_distinct ps apart),

@@ -1,26 +1,29 @@
 -- What a selector means on a shape.
-use Rattle.std.specs.Prelude.{◌≡◌, true, false, List, [], ◌∷◌, ◌++◌, Ok, Err, Option, Result}
+use Rattle.std.specs.Prelude.{◌≡◌, true, false, List, [], ◌∷◌, ◌++◌, Ok, Err, Option, Result, option_to_list}
 use Rattle.std.specs.List.{AllByRecursion}
 use Rattle.grid.specs.declared.shape.Shape.{Shape}
 use Rattle.grid.specs.declared.entity.Entity.{Entity}
 use Rattle.grid.specs.declared.refusal.Refusal.{Refusal}
 use Rattle.grid.specs.Positions.{Coordinates, positions_of, is_small, member}
-use Rattle.grid.specs.Cursors.{StepsBy}
 
 -- a refusal, or the entities that are listed, in their order
-pub data Meaning : Type 0 where
-  refused : Refusal → Meaning
-  listed : List Entity → Meaning
+abbrev pub Meaning : Type 0
+Meaning = Result (List Entity) Refusal
 
 -- a selector that refuses lists nothing
 abbrev pub entities : Meaning → List Entity
-entities (refused e) = []
-entities (listed es) = es
+entities (Err e) = []
+entities (Ok es) = es
 
 -- what a test answers
 abbrev pub verdict : Meaning → Result (Unit {0}) Refusal
-verdict (refused e) = Err e
-verdict (listed es) = Ok tt
+verdict (Err e) = Err e
+verdict (Ok es) = Ok tt
+
+-- a refusal, or at most one entity
+abbrev pub at_most_one : Result (Option Entity) Refusal → Meaning
+at_most_one (Err e) = Err e
+at_most_one (Ok e) = Ok (option_to_list e)
 
 -- the positions of some entities on a shape, those of the first entity first
 abbrev pub positions : Shape → List Entity → List Coordinates
@@ -35,7 +38,3 @@ Bounded es = AllByRecursion (λ e. is_small e ≡ true) es
 abbrev pub Distinct : List Coordinates → Type 0
 Distinct [] = Unit {0}
 Distinct (p ∷ ps) = (member p ps ≡ false) × Distinct ps
-
--- a step of a cursor gives the first entity of those to come and leaves the rest; at the end it gives none, and stays there
-abbrev pub Steps : List Entity → Option Entity → List Entity → Type 0
-Steps = StepsBy (λ e. e)

@@ -1,18 +1,17 @@
 // Selectors of one cell.
 ghost use Rattle.std.specs.Prelude.{◌≡◌};
 ghost use Rattle.grid.specs.Positions.{coordinates};
-ghost use Rattle.object.specs.Cells.{cell_means, position_means};
-ghost use Rattle.object.specs.Laws.{cell, position};
+ghost use Rattle.object.specs.Cells.{cell_meant, position_meant};
+ghost use Rattle.object.specs.Laws.{small_cell, small_position};
 
-use crate::object::Object;
-use crate::once::EntityOnce;
+use crate::single::Single;
 use grid::entity::Entity;
 use grid::position::Position;
 use grid::refusal::Refusal;
 use grid::shape::{MAX_COUNT, Shape};
 
 // The cell of this row and column, on the shape or not.
-#[derive(Clone, Copy)]
+#[derive(Clone, Copy, Debug, PartialEq, Eq)]
 pub struct Cell(usize, usize);
 
 impl Cell {
@@ -47,63 +46,36 @@ impl From<Position> for Cell {
     }
 }
 
-impl Object for (usize, usize) {
-    type Iter = EntityOnce;
+impl Single for (usize, usize) {
+    ghost meant = { λ x _. cell_meant x.0 x.1 };
 
-    ghost meaning = { λ x _. cell_means x.0 x.1 };
+    ghost small = { λ x s. small_cell x.0 x.1 };
 
-    ghost bounded = { λ x s. (cell s x.0 x.1).0 };
-
-    ghost distinct = { λ x s. (cell s x.0 x.1).1 };
-
-    fn test(&self, _shape: Shape) -> Result<(), Refusal> {
+    fn entity(&self, _shape: Shape) -> Result<Option<Entity>, Refusal> {
         if self.0 < MAX_COUNT && self.1 < MAX_COUNT {
-            Ok(())
+            Ok(Some(Entity::Cell(self.0, self.1)))
         } else {
             Err(Refusal::OutOfRange)
         }
     }
+}
 
-    fn cells(&self, shape: Shape) -> EntityOnce {
-        match self.test(shape) {
-            Ok(()) => EntityOnce::new(Some(Entity::Cell(self.0, self.1))),
-            Err(_) => EntityOnce::new(None),
-        }
+impl Single for Cell {
+    ghost meant = { λ x _. cell_meant x.0 x.1 };
+
+    ghost small = { λ x s. small_cell x.0 x.1 };
+
+    fn entity(&self, shape: Shape) -> Result<Option<Entity>, Refusal> {
+        (self.0, self.1).entity(shape)
     }
 }
 
-impl Object for Cell {
-    type Iter = EntityOnce;
+impl Single for Position {
+    ghost meant = { λ x _. position_meant (coordinates x) };
 
-    ghost meaning = { λ x _. cell_means x.0 x.1 };
+    ghost small = { λ x s. small_position (coordinates x) x.low x.near };
 
-    ghost bounded = { λ x s. (cell s x.0 x.1).0 };
-
-    ghost distinct = { λ x s. (cell s x.0 x.1).1 };
-
-    fn test(&self, shape: Shape) -> Result<(), Refusal> {
-        (self.0, self.1).test(shape)
-    }
-
-    fn cells(&self, shape: Shape) -> EntityOnce {
-        (self.0, self.1).cells(shape)
-    }
-}
-
-impl Object for Position {
-    type Iter = EntityOnce;
-
-    ghost meaning = { λ x _. position_means (coordinates x) };
-
-    ghost bounded = { λ x s. (position s (coordinates x) x.low x.near).0 };
-
-    ghost distinct = { λ x s. (position s (coordinates x) x.low x.near).1 };
-
-    fn test(&self, _shape: Shape) -> Result<(), Refusal> {
-        Ok(())
-    }
-
-    fn cells(&self, _shape: Shape) -> EntityOnce {
-        EntityOnce::new(Some(Entity::Cell(self.row(), self.column())))
+    fn entity(&self, _shape: Shape) -> Result<Option<Entity>, Refusal> {
+        Ok(Some(Entity::from(*self)))
     }
 }

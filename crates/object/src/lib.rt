@@ -4,5 +4,5 @@
 pub mod cell;
 pub mod cursor;
 pub mod object;
-pub mod once;
 pub mod selected;
+pub mod single;

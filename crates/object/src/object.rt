@@ -9,7 +9,7 @@ use grid::shape::Shape;
 
 // It means, for each shape, a refusal or a list of entities. Each implementation shows two laws of that list.
 pub trait Object {
-    type Iter: Cursor + Drop;
+    type Iter: Cursor;
 
     ghost meaning: { Self → Shape → Meaning };
 
@@ -25,5 +25,5 @@ pub trait Object {
 
     // A cursor over the entities; it is at its end where the shape is refused.
     fn cells(&self, shape: Shape) -> Self::Iter
-        ensures { Self.Iter.Cursor.remaining result ≡ entities (meaning self.now shape) };
+        ensures { Self.Iter.to_come result ≡ entities (meaning self.now shape) };
 }

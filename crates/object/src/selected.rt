@@ -15,18 +15,16 @@ use grid::shape::Shape;
 fn insert_all(set: &mut PositionSet, entity: Entity, shape: Shape)
     ensures { (a b : ℕ) → has set.new (a, b) ≡ (member (a, b) (positions_of shape entity) || has set.old (a, b)) }
 {
-    let mut positions = entity.iter(shape);
-    while let Some(position) = positions.next() {
+    for position in entity.iter(shape) {
         set.insert(position);
     }
 }
 
-fn collect<C: Cursor + Drop>(cursor: C, shape: Shape) -> PositionSet
-    ensures { (a b : ℕ) → has result (a, b) ≡ member (a, b) (positions shape (C.Cursor.remaining cursor)) }
+fn collect<C: Cursor>(cursor: C, shape: Shape) -> PositionSet
+    ensures { (a b : ℕ) → has result (a, b) ≡ member (a, b) (positions shape (C.to_come cursor)) }
 {
-    let mut rest = cursor;
     let mut set = PositionSet::new();
-    while let Some(entity) = rest.next() {
+    for entity in cursor {
         insert_all(&mut set, entity, shape);
     }
     set
@@ -34,7 +32,7 @@ fn collect<C: Cursor + Drop>(cursor: C, shape: Shape) -> PositionSet
 
 // The positions that the selector picks on a shape, or its refusal of it.
 pub fn selected<O: Object>(object: &O, shape: Shape) -> Result<PositionSet, Refusal>
-    ensures { Selects shape (O.Object.meaning object.now shape) result }
+    ensures { Selects shape (O.meaning object.now shape) result }
 {
     object.test(shape)?;
     Ok(collect(object.cells(shape), shape))

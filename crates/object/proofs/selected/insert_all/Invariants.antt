@@ -1,4 +1,4 @@
-use Rattle.std.proofs.Common.{◌≡◌, ℕ, ◌||◌, length}
+use Rattle.std.proofs.Common.{◌≡◌, ℕ, ◌||◌}
 use Rattle.grid.specs.Positions.{member}
 use Rattle.grid.specs.Cursors.{remaining}
 use Rattle.grid.specs.Sets.{has}
@@ -7,7 +7,5 @@ use Rattle.object.proofs.selected.insert_all.Given as goal
 abbrev pub invariant-loop-position : goal.invariant-loop-position
 invariant-loop-position l =
     (a b : ℕ)
-    → (member (a, b) (remaining l.positions) || has l.set (a, b)) ≡ (member (a, b) (remaining l.initial.positions) || has l.initial.set (a, b))
-
-abbrev pub decreases-loop-position : goal.decreases-loop-position
-decreases-loop-position l = length (remaining l.positions)
+    → (member (a, b) (remaining l.position-iterator) || has l.set (a, b))
+    ≡ (member (a, b) (remaining l.initial.position-iterator) || has l.initial.set (a, b))
