@@ -5,8 +5,7 @@ use Rattle.std.proofs.Math.Nat.{min-le_left, min-le_right}
 use Rattle.std.specs.List.{AllByRecursion}
 use Rattle.std.proofs.lemmas.Bool.{false≢true, and_from, lt-ltb, or_cases}
 use Rattle.grid.specs.declared.shape.Shape.{Shape}
-use Rattle.grid.specs.Positions.{Coordinates, same, member, is_small, InRowOrder}
-use Rattle.object.specs.Cells.{cell_at}
+use Rattle.grid.specs.Positions.{Coordinates, same, member, is_small, InRowOrder, cell_at}
 use Rattle.object.specs.Kept.{same_is}
 use Rattle.object.specs.Laws.{Lawful, up_to, each_cell, distinct_ordered}
 use Rattle.diagonal.specs.Diagonals.{diagonal, diagonal_means}
@@ -27,7 +26,7 @@ ordered r c (suc n) = ((λ q e. inl (omega (arith, not_above q (r + 1) (c + 1) n
 pub lawful : (c : ℕ) (s : Shape) → Lawful s (diagonal_means c s)
 lawful c s =
     let n = min s.rows (s.columns - c) in
-    up_to s c _
+    up_to (Lawful s) c _ (tt, tt)
     (λ h. each_cell s (diagonal 0 c n)
     (all_small 0 c n (omega (arith, min-le_left s.rows (s.columns - c), s.tall)) (omega (arith, min-le_right s.rows (s.columns - c), s.wide)))
     (distinct_ordered (diagonal 0 c n) (ordered 0 c n)))

@@ -1,9 +1,9 @@
 // A diagonal of the grid.
-ghost use Rattle.std.specs.Prelude.{◌≡◌, ◌-◌, min, map, Err, MatchResult};
+ghost use Rattle.std.specs.Prelude.{◌≡◌, Err, Ok, MatchResult};
+ghost use Rattle.std.specs.Iterator.{YieldsFirst, item_count};
 ghost use Rattle.grid.specs.Positions.{coordinates, member};
 ghost use Rattle.object.specs.Meanings.{entities, positions, verdict};
-ghost use Rattle.object.specs.Cells.{cell_at};
-ghost use Rattle.diagonal.specs.Diagonals.{diagonal, diagonal_means};
+ghost use Rattle.diagonal.specs.Diagonals.{diagonal_means};
 ghost use Rattle.diagonal.specs.Laws.{lawful};
 
 use grid::entity::Entity;
@@ -13,32 +13,46 @@ use grid::shape::{MAX_COUNT, Shape};
 use object::cursor::Cursor;
 use object::object::Object;
 use object::selected::selected;
+use std::ops::Range;
 
-// It stands at (row, column) and goes down to the right, as long as it is below both counts.
+// What is left of both counts; the diagonal ends with the first that does.
 #[derive(Drop)]
 pub struct DiagonalIter {
-    row: usize,
-    column: usize,
-    rows: usize,
-    columns: usize,
+    rows: Range<usize>,
+    columns: Range<usize>,
 }
 
-impl Cursor for DiagonalIter {
-    ghost remaining = { λ x. map cell_at (diagonal x.row x.column (min (x.rows - x.row) (x.columns - x.column))) };
+impl Iterator for DiagonalIter {
+    ghost use Rattle.diagonal.specs.Diagonals.{cells_left};
 
+    type Item = Entity;
+
+    ghost next_gives = { YieldsFirst cells_left };
+
+    ghost remaining = { item_count cells_left };
+
+    #[tactic(auto, using(crate::proofs::Steps::step, crate::proofs::Steps::no_rows, crate::proofs::Steps::no_columns))]
     fn next(&mut self) -> Option<Entity> {
-        if self.row >= self.rows || self.column >= self.columns {
-            return None;
-        }
-        let found = Entity::Cell(self.row, self.column);
-        self.row += 1;
-        self.column += 1;
-        Some(found)
+        let row = self.rows.next()?;
+        let column = self.columns.next()?;
+        Some(Entity::Cell(row, column))
     }
 }
 
+impl Cursor for DiagonalIter {
+    ghost use Rattle.diagonal.specs.Diagonals.{cells_left};
+
+    ghost to_come = { cells_left };
+
+    ghost ready = { λ s. tt };
+
+    ghost steps = { λ s r t h. h };
+
+    ghost ends = { λ s. tt };
+}
+
 // The cells down to the right from this column of the first row, as far as the grid goes.
-#[derive(Clone, Copy)]
+#[derive(Clone, Copy, Debug, PartialEq, Eq)]
 pub struct Diagonal {
     column: usize,
 }
@@ -76,15 +90,14 @@ impl Object for Diagonal {
     }
 
     fn cells(&self, shape: Shape) -> DiagonalIter {
-        let rows = match self.test(shape) {
-            Ok(()) => shape.rows(),
-            Err(_) => 0,
+        let rows = if self.test(shape).is_ok() {
+            shape.rows()
+        } else {
+            0
         };
         DiagonalIter {
-            row: 0,
-            column: self.column,
-            rows,
-            columns: shape.columns(),
+            rows: 0..rows,
+            columns: self.column..shape.columns(),
         }
     }
 }

@@ -105,14 +105,15 @@ distinct_at_most_one s (Ok (Some e)) = distinct_single s e
 abbrev pub Small : Result (Option Entity) Refusal → Type 0
 Small m = Bounded (entities (at_most_one m))
 
-pub up_to : (n : ℕ) (m : Result (Option Entity) Refusal) → (n < 128 → Small m) → Small (up_to_127 n m)
-up_to n m h = cond_both (nat_lt n 128) m (Err OutOfRange) Small (λ e. h (ltb-true n 128 e)) (λ e. tt)
+-- what holds of a refusal, and of a meaning where the number is in range, holds of both together
+pub up_to : {X : Type 0} (P : Result X Refusal → Type 0) (n : ℕ) (m : Result X Refusal) → P (Err OutOfRange) → (n < 128 → P m) → P (up_to_127 n m)
+up_to P n m refused h = cond_both (nat_lt n 128) m (Err OutOfRange) P (λ e. h (ltb-true n 128 e)) (λ _. refused)
 
 pub small_position : (p : Coordinates) → p.0 < 128 → p.1 < 128 → Small (position_meant p)
 small_position p h k = (and_from _ _ (lt-ltb p.0 128 h) (lt-ltb p.1 128 k), tt)
 
 pub small_cell : (r c : ℕ) → Small (cell_meant r c)
-small_cell r c = up_to r _ (λ h. up_to c _ (λ k. small_position (r, c) h k))
+small_cell r c = up_to Small r _ tt (λ h. up_to Small c _ tt (λ k. small_position (r, c) h k))
 
 -- cells, each at another position
 pub each_cell : (s : Shape) (ps : List Coordinates) → AllByRecursion (λ p. is_small (cell_at p) ≡ true) ps → Distinct ps → Lawful s (Ok (map cell_at ps))

@@ -13,12 +13,6 @@ pub trait Object {
 
     ghost meaning: { Self → Shape → Meaning };
 
-    // no number above 127
-    ghost bounded: { (x : Self) (s : Shape) → Bounded (entities (meaning x s)) };
-
-    // no position twice
-    ghost distinct: { (x : Self) (s : Shape) → Distinct (positions s (entities (meaning x s))) };
-
     // Whether the shape is refused.
     fn test(&self, shape: Shape) -> Result<(), Refusal>
         ensures { result ≡ verdict (meaning self.now shape) };
@@ -26,4 +20,10 @@ pub trait Object {
     // A cursor over the entities; it is at its end where the shape is refused.
     fn cells(&self, shape: Shape) -> Self::Iter
         ensures { Self.Iter.to_come result ≡ entities (meaning self.now shape) };
+
+    // no number above 127
+    ghost bounded: { (x : Self) (s : Shape) → Bounded (entities (meaning x s)) };
+
+    // no position twice
+    ghost distinct: { (x : Self) (s : Shape) → Distinct (positions s (entities (meaning x s))) };
 }

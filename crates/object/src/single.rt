@@ -16,11 +16,11 @@ use std::iter::Once;
 pub trait Single {
     ghost meant: { Self → Shape → Result (Option Entity) Refusal };
 
-    // no number above 127
-    ghost small: { (x : Self) (s : Shape) → Bounded (entities (at_most_one (meant x s))) };
-
     fn entity(&self, shape: Shape) -> Result<Option<Entity>, Refusal>
         ensures { result ≡ meant self.now shape };
+
+    // no number above 127
+    ghost small: { (x : Self) (s : Shape) → Bounded (entities (at_most_one (meant x s))) };
 }
 
 impl<T: Single> Object for T {

@@ -5,29 +5,29 @@ use Rattle.std.specs.List.{range_with_len, AllByRecursion}
 use Rattle.std.proofs.lemmas.Bool.{leb-true, lt-ltb, and_parts, and_from, or_left, or_right, cond_both}
 use Rattle.std.proofs.ByRecursion.{All-map, all_kept_by}
 use Rattle.grid.specs.declared.shape.Shape.{Shape}
-use Rattle.grid.specs.declared.range.Bound.{Bound}
+use Rattle.std.specs.declared.ops.Bound.{Bound}
+use Rattle.std.specs.Range.Bound.{start_index, end_index}
 use Rattle.grid.specs.declared.entity.Entity.{Entity}
-use Rattle.grid.specs.declared.entity.Entity.TheVariants.{Global, Row, Column}
+use Rattle.grid.specs.declared.entity.Entity.TheVariants.{Global}
 use Rattle.grid.specs.declared.refusal.Refusal.{Refusal}
 use Rattle.grid.specs.declared.refusal.Refusal.TheVariants.{OutOfRange, StartExcluded}
-use Rattle.grid.specs.Positions.{Coordinates, same, member, is_small, positions_of, sector}
-use Rattle.grid.specs.Ranges.{is_excluded, first_from, first_past, resolved}
+use Rattle.grid.specs.Positions.{Coordinates, same, member, is_small, positions_of, sector, cell_at}
+use Rattle.grid.specs.Ranges.{is_excluded, resolved}
 use Rattle.grid.proofs.Listings.{same_self, lists, lists_sector}
-use Rattle.object.specs.Meanings.{Meaning, listed}
-use Rattle.object.specs.Cells.{cell_at}
-use Rattle.object.specs.Laws.{Lawful, distinct_each, distinct_ordered, row_tells, column_tells, apart_counting, each_cell}
+use Rattle.object.specs.Meanings.{Meaning}
+use Rattle.object.specs.Laws.{Lawful, distinct_each, distinct_ordered, apart_counting, each_cell}
 use Rattle.object.specs.Kept.{order_kept}
-use Rattle.ranged.specs.Ranged.{over, numbers, rows_means, columns_means, segment_means, is_on_edge, edge_of, frame_means}
+use Rattle.ranged.specs.Ranged.{Bounds, over, numbers, span_means, segment_means, is_on_edge, edge_of, frame_means}
 
 -- a range that is resolved ends at 128 at most
 abbrev Ended : Result (ℕ × ℕ) Refusal → Type 0
 Ended r = IfOk r (λ p. p.1 ≤ 128)
 
-ended : (a b : Bound) (n : ℕ) → Ended (resolved a b n)
+ended : (a b : Bound ℕ) (n : ℕ) → Ended (resolved a b n)
 ended a b n =
     cond_both (is_excluded a) (Err StartExcluded) _ Ended (λ _. tt)
-    (λ _. cond_both (nat_le (first_from a) 128 && nat_le (first_past b n) 128) (Ok (first_from a, first_past b n)) (Err OutOfRange) Ended
-    (λ e. leb-true (first_past b n) 128 (and_parts (nat_le (first_from a) 128) (nat_le (first_past b n) 128) e).1) (λ _. tt))
+    (λ _. cond_both (nat_le (start_index a) 128 && nat_le (end_index b n) 128) (Ok (start_index a, end_index b n)) (Err OutOfRange) Ended
+    (λ e. leb-true (end_index b n) 128 (and_parts (nat_le (start_index a) 128) (nat_le (end_index b n) 128) e).1) (λ _. tt))
 
 lawful_over : (s : Shape) (r : Result (ℕ × ℕ) Refusal) (means : ℕ × ℕ → Meaning) → Ended r → ((p : ℕ × ℕ) → p.1 ≤ 128 → Lawful s (means p)) → Lawful s (over r means)
 lawful_over s (Err e) means h each = (tt, tt)
@@ -41,7 +41,7 @@ module _ (s : Shape) (make : ℕ → Entity) (of : Coordinates → ℕ)
   small_each [] h = tt
   small_each (n ∷ ns) h = (small n h.0, small_each ns h.1)
 
-  numbered : (p : ℕ × ℕ) → p.1 ≤ 128 → Lawful s (listed (map make (numbers p)))
+  numbered : (p : ℕ × ℕ) → p.1 ≤ 128 → Lawful s (Ok (map make (numbers p)))
   numbered p h = (
     All-map (λ e. is_small e ≡ true) make (numbers p) (small_each (numbers p) (below p h)),
     distinct_each s make of tells (numbers p) (apart_counting p.0 (p.1 - p.0)),
@@ -54,15 +54,8 @@ module _ (s : Shape) (make : ℕ → Entity) (of : Coordinates → ℕ)
       below : (p : ℕ × ℕ) → p.1 ≤ 128 → AllByRecursion (λ k. k < 128) (numbers p)
       below p h = below_more p.0 (p.1 - p.0) p.1 h (omega arith)
 
-pub rows : (range : Bound × Bound) (s : Shape) → Lawful s (rows_means range s)
-rows range s =
-    lawful_over s (resolved range.0 range.1 s.rows) _ (ended range.0 range.1 s.rows)
-    (numbered s Row (λ p. p.0) (row_tells s) (λ n h. lt-ltb n 128 h))
-
-pub columns : (range : Bound × Bound) (s : Shape) → Lawful s (columns_means range s)
-columns range s =
-    lawful_over s (resolved range.0 range.1 s.columns) _ (ended range.0 range.1 s.columns)
-    (numbered s Column (λ p. p.1) (column_tells s) (λ n h. lt-ltb n 128 h))
+  pub span : (range : Bounds) (count : ℕ) → Lawful s (span_means make range count)
+  span range count = lawful_over s (resolved range.0 range.1 count) _ (ended range.0 range.1 count) numbered
 
 -- what holds of each position that a list has
 all_member : (P : Coordinates → Type 0) (ps : List Coordinates) → ((p : Coordinates) → member p ps ≡ true → P p) → AllByRecursion P ps
@@ -72,7 +65,7 @@ all_member P (p ∷ ps) h = (h p (or_left (same p p) (member p ps) (same_self p)
 small_cell : (p : Coordinates) → p.0 < 128 → p.1 < 128 → is_small (cell_at p) ≡ true
 small_cell p h k = and_from _ _ (lt-ltb p.0 128 h) (lt-ltb p.1 128 k)
 
-pub segment : (rows columns : Bound × Bound) (s : Shape) → Lawful s (segment_means rows columns s)
+pub segment : (rows columns : Bounds) (s : Shape) → Lawful s (segment_means rows columns s)
 segment rows columns s =
     lawful_over s (resolved rows.0 rows.1 s.rows) _ (ended rows.0 rows.1 s.rows)
     (λ p _. lawful_over s (resolved columns.0 columns.1 s.columns) _ (ended columns.0 columns.1 s.columns)

@@ -2,38 +2,44 @@
 use Rattle.std.specs.Prelude.{◌≡◌, ℕ, ◌+◌, ◌-◌, ◌<◌, Bool, ◌||◌, ◌⊎◌, List, map, Ok, Err, Decides, filter, Result, ◌==◌}
 use Rattle.std.specs.List.{range_with_len}
 use Rattle.grid.specs.declared.shape.Shape.{Shape}
-use Rattle.grid.specs.declared.range.Bound.{Bound}
-use Rattle.grid.specs.declared.entity.Entity.TheVariants.{Global, Row, Column}
+use Rattle.std.specs.declared.ops.Bound.{Bound}
+use Rattle.grid.specs.declared.entity.Entity.{Entity}
+use Rattle.grid.specs.declared.entity.Entity.TheVariants.{Global}
 use Rattle.grid.specs.declared.refusal.Refusal.{Refusal}
-use Rattle.grid.specs.Positions.{Coordinates, member, InRowOrder, positions_of, sector}
+use Rattle.grid.specs.Positions.{Coordinates, member, InRowOrder, positions_of, sector, cell_at}
 use Rattle.grid.specs.Ranges.{resolved}
-use Rattle.object.specs.Meanings.{Meaning, refused, listed}
-use Rattle.object.specs.Cells.{cell_at}
+use Rattle.object.specs.Meanings.{Meaning}
+
+-- a start and an end
+abbrev pub Bounds : Type 0
+Bounds = Bound ℕ × Bound ℕ
 
 -- a range that is refused is the selector's refusal
 abbrev pub over : {X : Type 0} → Result X Refusal → (X → Meaning) → Meaning
-over (Err e) means = refused e
+over (Err e) means = Err e
 over (Ok x) means = means x
 
 -- the numbers from the first of a pair up to its second, which is left out
 abbrev pub numbers : ℕ × ℕ → List ℕ
 numbers p = range_with_len p.0 (p.1 - p.0)
 
-abbrev pub rows_means : Bound × Bound → Shape → Meaning
-rows_means range s = over (resolved range.0 range.1 s.rows) (λ p. listed (map Row (numbers p)))
+-- the lines with a number of a pair
+abbrev pub lines : (ℕ → Entity) → ℕ × ℕ → List Entity
+lines line p = map line (numbers p)
 
-abbrev pub columns_means : Bound × Bound → Shape → Meaning
-columns_means range s = over (resolved range.0 range.1 s.columns) (λ p. listed (map Column (numbers p)))
+-- the lines with a number of the range, where a shape has so many
+abbrev pub span_means : (ℕ → Entity) → Bounds → ℕ → Meaning
+span_means line range count = over (resolved range.0 range.1 count) (λ p. Ok (lines line p))
 
 -- the cells of two resolved ranges, row by row
 abbrev pub sector_of : Result ((ℕ × ℕ) × (ℕ × ℕ)) Refusal → Meaning
-sector_of r = over r (λ p. listed (map cell_at (sector p.0 p.1)))
+sector_of r = over r (λ p. Ok (map cell_at (sector p.0 p.1)))
 
 -- each row of the one range with each column of the other, row by row
-abbrev pub segment_means : Bound × Bound → Bound × Bound → Shape → Meaning
+abbrev pub segment_means : Bounds → Bounds → Shape → Meaning
 segment_means rows columns s =
     over (resolved rows.0 rows.1 s.rows)
-    (λ p. over (resolved columns.0 columns.1 s.columns) (λ q. listed (map cell_at (sector p q))))
+    (λ p. over (resolved columns.0 columns.1 s.columns) (λ q. Ok (map cell_at (sector p q))))
 
 -- in the first or last row, or in the first or last column
 abbrev pub is_on_edge : Shape → Coordinates → Bool
@@ -45,7 +51,7 @@ edge_of s ps = filter (is_on_edge s) ps
 
 -- the cells of the grid that lie on its edge, row by row
 abbrev pub frame_means : Shape → Meaning
-frame_means s = listed (map cell_at (edge_of s (positions_of s Global)))
+frame_means s = Ok (map cell_at (edge_of s (positions_of s Global)))
 
 abbrev pub OnEdge : Shape → ℕ → ℕ → Type 0
 OnEdge s a b = ((a ≡ 0) ⊎ (a + 1 ≡ s.rows)) ⊎ ((b ≡ 0) ⊎ (b + 1 ≡ s.columns))

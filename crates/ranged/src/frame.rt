@@ -1,9 +1,9 @@
 // The cells on the edge of the grid.
 ghost use Rattle.std.specs.Prelude.{◌≡◌, map};
+ghost use Rattle.std.specs.Iterator.{YieldsFirst, item_count};
 ghost use Rattle.grid.specs.declared.entity.Entity.TheVariants.{Global};
 ghost use Rattle.grid.specs.Cursors.{remaining as positions_left};
-ghost use Rattle.grid.specs.Positions.{coordinates, positions_of};
-ghost use Rattle.object.specs.Cells.{cell_at};
+ghost use Rattle.grid.specs.Positions.{cell_at, coordinates, positions_of};
 ghost use Rattle.ranged.specs.Ranged.{is_on_edge, edge_of, frame_means, ListsFrame};
 ghost use Rattle.ranged.specs.Laws.{frame};
 
@@ -42,21 +42,36 @@ fn is_on_edge(position: Position, shape: Shape) -> bool
     row == 0 || row + 1 == shape.rows() || column == 0 || column + 1 == shape.columns()
 }
 
-impl Cursor for FrameIter {
-    ghost remaining = { λ x. map cell_at (edge_of x.shape (positions_left x.positions)) };
+impl Iterator for FrameIter {
+    type Item = Entity;
+
+    ghost next_gives = { YieldsFirst (λ s. map cell_at (edge_of s.shape (positions_left s.positions))) };
+
+    ghost remaining = { item_count (λ s. map cell_at (edge_of s.shape (positions_left s.positions))) };
 
     fn next(&mut self) -> Option<Entity> {
+        // A loop, not `find`, whose proof asks a lemma over closures where this asks an invariant.
         while let Some(position) = self.positions.next() {
             if is_on_edge(position, self.shape) {
-                return Some(Entity::Cell(position.row(), position.column()));
+                return Some(Entity::from(position));
             }
         }
         None
     }
 }
 
+impl Cursor for FrameIter {
+    ghost to_come = { λ s. map cell_at (edge_of s.shape (positions_left s.positions)) };
+
+    ghost ready = { λ s. tt };
+
+    ghost steps = { λ s r t h. h };
+
+    ghost ends = { λ s. tt };
+}
+
 // The cells in the first and last row and column of the grid, each once.
-#[derive(Clone, Copy)]
+#[derive(Clone, Copy, Debug, PartialEq, Eq)]
 pub struct Frame;
 
 impl Object for Frame {

@@ -1,47 +1,64 @@
 // The cells of a range of rows and a range of columns.
 ghost use Rattle.std.specs.Prelude.{◌≡◌, map};
+ghost use Rattle.std.specs.Iterator.{YieldsFirst, item_count};
 ghost use Rattle.grid.specs.Cursors.{remaining as positions_left};
-ghost use Rattle.object.specs.Cells.{cell_at};
+ghost use Rattle.grid.specs.Positions.{cell_at};
 ghost use Rattle.ranged.specs.Ranged.{segment_means, sector_of};
 ghost use Rattle.ranged.specs.Laws.{segment};
 
+use crate::span::{Columns, Rows};
 use grid::entity::Entity;
 use grid::iterator::EntityIterator;
-use grid::range::{Bound, bounds_to_usize};
 use grid::refusal::Refusal;
 use grid::shape::Shape;
 use object::cursor::Cursor;
 use object::object::Object;
 use single::segment::SegmentAll;
+use std::ops::RangeBounds;
 
 #[derive(Drop)]
 pub struct SectorIter {
     positions: EntityIterator,
 }
 
-impl Cursor for SectorIter {
-    ghost remaining = { λ x. map cell_at (positions_left x.positions) };
+impl Iterator for SectorIter {
+    type Item = Entity;
+
+    ghost next_gives = { YieldsFirst (λ s. map cell_at (positions_left s.positions)) };
+
+    ghost remaining = { item_count (λ s. map cell_at (positions_left s.positions)) };
 
     fn next(&mut self) -> Option<Entity> {
-        match self.positions.next() {
-            Some(position) => Some(Entity::Cell(position.row(), position.column())),
-            None => None,
-        }
+        self.positions.next().map(|p| Entity::from(p))
     }
+}
+
+impl Cursor for SectorIter {
+    ghost to_come = { λ s. map cell_at (positions_left s.positions) };
+
+    ghost ready = { λ s. tt };
+
+    ghost steps = { λ s r t h. h };
+
+    ghost ends = { λ s. tt };
 }
 
 // The cells with a row of the one range and a column of the other, on the shape or not.
 #[derive(Clone, Copy)]
 pub struct Segment {
-    rows: (Bound, Bound),
-    columns: (Bound, Bound),
+    rows: Rows,
+    columns: Columns,
 }
 
 impl Segment {
-    pub fn new(rows: (Bound, Bound), columns: (Bound, Bound)) -> Self
-        ensures { (result.rows ≡ rows) × (result.columns ≡ columns) }
+    pub fn new<R: RangeBounds<usize>, C: RangeBounds<usize>>(rows: R, columns: C) -> Self
+        ensures rows { R.has_bounds rows → result.rows.range ≡ (R.start_bound rows, R.end_bound rows) }
+        ensures columns { C.has_bounds columns → result.columns.range ≡ (C.start_bound columns, C.end_bound columns) }
     {
-        Segment { rows, columns }
+        Segment {
+            rows: Rows::new(rows),
+            columns: Columns::new(columns),
+        }
     }
 
     pub fn all() -> SegmentAll
@@ -50,25 +67,22 @@ impl Segment {
         SegmentAll
     }
 
-    // Both ranges, resolved.
+    // Both ranges, resolved, the rows first.
     fn sector(&self, shape: Shape) -> Result<((usize, usize), (usize, usize)), Refusal>
-        ensures { sector_of result ≡ segment_means self.now.rows self.now.columns shape }
+        ensures { sector_of result ≡ segment_means self.now.rows.range self.now.columns.range shape }
     {
-        let (rows, columns) = (self.rows, self.columns);
-        let rows = bounds_to_usize(rows.0, rows.1, shape.rows())?;
-        let columns = bounds_to_usize(columns.0, columns.1, shape.columns())?;
-        Ok((rows, columns))
+        Ok((self.rows.resolve(shape)?, self.columns.resolve(shape)?))
     }
 }
 
 impl Object for Segment {
     type Iter = SectorIter;
 
-    ghost meaning = { λ x s. segment_means x.rows x.columns s };
+    ghost meaning = { λ x s. segment_means x.rows.range x.columns.range s };
 
-    ghost bounded = { λ x s. (segment x.rows x.columns s).0 };
+    ghost bounded = { λ x s. (segment x.rows.range x.columns.range s).0 };
 
-    ghost distinct = { λ x s. (segment x.rows x.columns s).1 };
+    ghost distinct = { λ x s. (segment x.rows.range x.columns.range s).1 };
 
     fn test(&self, shape: Shape) -> Result<(), Refusal> {
         self.sector(shape)?;
@@ -76,13 +90,9 @@ impl Object for Segment {
     }
 
     fn cells(&self, shape: Shape) -> SectorIter {
-        match self.sector(shape) {
-            Ok((rows, columns)) => SectorIter {
-                positions: EntityIterator::sector(rows, columns),
-            },
-            Err(_) => SectorIter {
-                positions: EntityIterator::sector((0, 0), (0, 0)),
-            },
+        let (rows, columns) = self.sector(shape).unwrap_or(((0, 0), (0, 0)));
+        SectorIter {
+            positions: EntityIterator::sector(rows, columns),
         }
     }
 }

@@ -1,7 +1,8 @@
 // Selectors of at most one row or column, and of all cells.
 #![tactic(auto)]
 
-pub mod columns;
+pub mod axis;
+pub mod ends;
+pub mod index;
 pub mod offset;
-pub mod rows;
 pub mod segment;

@@ -1,12 +1,11 @@
 // Counting from the last row or column.
-ghost use Rattle.std.specs.Prelude.{◌≡◌, ℕ, ◌≤◌};
-ghost use Rattle.grid.specs.declared.entity.Entity.{Entity};
-ghost use Rattle.single.specs.Singles.{named, from_last};
+ghost use Rattle.std.specs.Prelude.{◌≡◌, ◌≤◌};
+ghost use Rattle.single.specs.Singles.{from_last};
 
 use grid::refusal::Refusal;
 use grid::shape::MAX_COUNT;
 
-#[derive(Clone, Copy)]
+#[derive(Clone, Copy, Debug, PartialEq, Eq)]
 pub enum Offset {
     // so many past the last
     Plus(usize),
@@ -18,11 +17,10 @@ impl Offset {
     // The number so far from the last of `count`; none before the first, or where the count is 0.
     pub(crate) fn from_last(self, count: usize) -> Result<Option<usize>, Refusal>
         requires { count ≤ 128 }
-        ensures { (make : ℕ → Entity) → named make result ≡ from_last make count self }
+        ensures { result ≡ from_last count self }
     {
         match self {
-            Offset::Plus(k) if k >= MAX_COUNT => Err(Refusal::OutOfRange),
-            Offset::Minus(k) if k >= MAX_COUNT => Err(Refusal::OutOfRange),
+            Offset::Plus(k) | Offset::Minus(k) if k >= MAX_COUNT => Err(Refusal::OutOfRange),
             Offset::Plus(_) if count == 0 => Ok(None),
             Offset::Plus(k) if count + k <= MAX_COUNT => Ok(Some(count - 1 + k)),
             Offset::Plus(_) => Err(Refusal::PastLast),

@@ -1,30 +1,21 @@
 // The selector of all cells.
-ghost use Rattle.single.specs.Singles.{all_means};
-ghost use Rattle.single.specs.Laws.{all_cells};
+ghost use Rattle.std.specs.Prelude.{refl};
+ghost use Rattle.single.specs.Singles.{all_meant};
 
 use grid::entity::Entity;
 use grid::refusal::Refusal;
 use grid::shape::Shape;
-use object::object::Object;
-use object::once::EntityOnce;
+use object::single::Single;
 
-#[derive(Clone, Copy)]
+#[derive(Clone, Copy, Debug, PartialEq, Eq)]
 pub struct SegmentAll;
 
-impl Object for SegmentAll {
-    type Iter = EntityOnce;
+impl Single for SegmentAll {
+    ghost meant = { λ _ _. all_meant };
 
-    ghost meaning = { λ _ _. all_means };
+    ghost small = { λ _ _. (refl, tt) };
 
-    ghost bounded = { λ _ s. (all_cells s).0 };
-
-    ghost distinct = { λ _ s. (all_cells s).1 };
-
-    fn test(&self, _shape: Shape) -> Result<(), Refusal> {
-        Ok(())
-    }
-
-    fn cells(&self, _shape: Shape) -> EntityOnce {
-        EntityOnce::new(Some(Entity::Global))
+    fn entity(&self, _shape: Shape) -> Result<Option<Entity>, Refusal> {
+        Ok(Some(Entity::Global))
     }
 }

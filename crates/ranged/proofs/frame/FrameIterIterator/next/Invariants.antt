@@ -1,7 +1,7 @@
 use Rattle.std.proofs.Common.{◌≡◌, length}
 use Rattle.grid.specs.Cursors.{remaining}
 use Rattle.ranged.specs.Ranged.{edge_of}
-use Rattle.ranged.proofs.frame.FrameIterCursor.next.Given as goal
+use Rattle.ranged.proofs.frame.FrameIterIterator.next.Given as goal
 
 abbrev pub invariant-loop-position : goal.invariant-loop-position
 invariant-loop-position l =
