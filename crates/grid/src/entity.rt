@@ -4,6 +4,7 @@ ghost use Rattle.std.specs.Prelude.{◌≡◌};
 use crate::iterator::EntityIterator;
 use crate::position::Position;
 use crate::shape::Shape;
+use std::fmt;
 
 #[derive(Clone, Copy, Debug, PartialEq, Eq)]
 pub enum Entity {
@@ -34,5 +35,17 @@ impl From<Position> for Entity {
 
     fn from(position: Position) -> Entity {
         Entity::Cell(position.row(), position.column())
+    }
+}
+
+// In a word: all, R and a row, C and a column, or a cell's row and column.
+impl fmt::Display for Entity {
+    fn fmt<W: fmt::Write>(&self, f: &mut fmt::Formatter<W>) -> fmt::Result {
+        match self {
+            Entity::Global => write!(f, "all"),
+            Entity::Row(r) => write!(f, "R{r}"),
+            Entity::Column(c) => write!(f, "C{c}"),
+            Entity::Cell(r, c) => write!(f, "{r}:{c}"),
+        }
     }
 }

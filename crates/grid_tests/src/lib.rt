@@ -5,32 +5,19 @@
 mod tests {
     use grid::entity::Entity;
     use grid::position::Position;
-    use grid::range::{Bound, bounds_to_usize};
+    use grid::range::bounds_to_usize;
     use grid::refusal::Refusal;
     use grid::set::PositionSet;
     use grid::shape::Shape;
+    use std::ops::Bound;
     use std::process::Abort;
     use std::test::Fail;
-
-    fn shape(rows: usize, columns: usize) -> Result<Shape, Fail> {
-        match Shape::new(rows, columns) {
-            Ok(shape) => Ok(shape),
-            Err(_) => Err(Fail::new("no such shape")),
-        }
-    }
-
-    fn position(row: usize, column: usize) -> Result<Position, Fail> {
-        match Position::new(row, column) {
-            Ok(position) => Ok(position),
-            Err(_) => Err(Fail::new("no such position")),
-        }
-    }
 
     #[test]
     fn shapes(rt: HostRuntime) -> Result<(), Fail> {
         let made = [(0, 0), (0, 128), (128, 0), (128, 128), (3, 7)];
         for (rows, columns) in made {
-            let shape = shape(rows, columns)?;
+            let shape = Shape::new(rows, columns)?;
             assert!(rt; shape.rows() == rows && shape.columns() == columns);
         }
         let refused = [
@@ -41,10 +28,10 @@ mod tests {
             (1, usize::MAX),
         ];
         for (rows, columns) in refused {
-            match Shape::new(rows, columns) {
-                Ok(_) => return Err(Fail::new("a shape that is too large")),
-                Err(refusal) => assert_eq!(rt; refusal.number(), 1),
-            }
+            assert_eq!(rt;
+                Shape::new(rows, columns).map_err(|refusal| refusal.number()),
+                Err(1)
+            );
         }
         Ok(())
     }
@@ -61,10 +48,7 @@ mod tests {
             (Bound::Included(5), Bound::Excluded(2), 9, (5, 2)),
         ];
         for (start, end, count, pair) in named {
-            match bounds_to_usize(start, end, count) {
-                Ok(found) => assert_eq!(rt; found, pair),
-                Err(_) => return Err(Fail::new("a range refused")),
-            }
+            assert_eq!(rt; bounds_to_usize(start, end, count)?, pair);
         }
         Ok(())
     }
@@ -82,10 +66,8 @@ mod tests {
             (Bound::Excluded(999), Bound::Included(999), 3, 2),
         ];
         for (start, end, count, number) in refused {
-            match bounds_to_usize(start, end, count) {
-                Ok(_) => return Err(Fail::new("a range accepted")),
-                Err(refusal) => assert_eq!(rt; refusal.number(), number),
-            }
+            let answer = bounds_to_usize(start, end, count);
+            assert_eq!(rt; answer.map_err(|refusal| refusal.number()), Err(number));
         }
         Ok(())
     }
@@ -98,13 +80,10 @@ mod tests {
     ) -> Result<(), Fail> {
         let mut cursor = entity.iter(shape);
         for (row, column) in expected {
-            match cursor.next() {
-                Some(found) => assert!(rt; found.row() == *row && found.column() == *column),
-                None => return Err(Fail::new("a cursor ends early")),
-            }
+            assert_eq!(rt; cursor.next(), Some(Position::new(*row, *column)?));
         }
-        assert!(rt; cursor.next().is_none());
-        assert!(rt; cursor.next().is_none(), "a cursor stays at its end");
+        assert_eq!(rt; cursor.next(), None);
+        assert_eq!(rt; cursor.next(), None, "a cursor stays at its end");
         Ok(())
     }
 
@@ -113,14 +92,19 @@ mod tests {
         lists(
             &rt,
             Entity::Global,
-            shape(2, 3)?,
+            Shape::new(2, 3)?,
             &[(0, 0), (0, 1), (0, 2), (1, 0), (1, 1), (1, 2)],
         )?;
-        lists(&rt, Entity::Row(5), shape(2, 2)?, &[(5, 0), (5, 1)])?;
-        lists(&rt, Entity::Column(7), shape(2, 2)?, &[(0, 7), (1, 7)])?;
-        lists(&rt, Entity::Cell(127, 127), shape(1, 1)?, &[(127, 127)])?;
-        lists(&rt, Entity::Row(128), shape(2, 2)?, &[])?;
-        lists(&rt, Entity::Cell(0, usize::MAX), shape(2, 2)?, &[])
+        lists(&rt, Entity::Row(5), Shape::new(2, 2)?, &[(5, 0), (5, 1)])?;
+        lists(&rt, Entity::Column(7), Shape::new(2, 2)?, &[(0, 7), (1, 7)])?;
+        lists(
+            &rt,
+            Entity::Cell(127, 127),
+            Shape::new(1, 1)?,
+            &[(127, 127)],
+        )?;
+        lists(&rt, Entity::Row(128), Shape::new(2, 2)?, &[])?;
+        lists(&rt, Entity::Cell(0, usize::MAX), Shape::new(2, 2)?, &[])
     }
 
     #[test]
@@ -132,9 +116,9 @@ mod tests {
             Entity::Cell(0, 0),
         ];
         for entity in entities {
-            lists(&rt, entity, shape(0, 3)?, &[])?;
-            lists(&rt, entity, shape(3, 0)?, &[])?;
-            lists(&rt, entity, shape(0, 0)?, &[])?;
+            lists(&rt, entity, Shape::new(0, 3)?, &[])?;
+            lists(&rt, entity, Shape::new(3, 0)?, &[])?;
+            lists(&rt, entity, Shape::new(0, 0)?, &[])?;
         }
         Ok(())
     }
@@ -143,29 +127,18 @@ mod tests {
     fn sets(rt: HostRuntime) -> Result<(), Fail> {
         let mut set = PositionSet::new();
         for (row, column) in [(0, 0), (3, 64), (3, 64), (64, 3), (127, 127)] {
-            set.insert(position(row, column)?);
+            set.insert(Position::new(row, column)?);
         }
-        let mut found = 0u32;
-        for row in 0..128 {
-            for column in 0..128 {
-                if set.contains(position(row, column)?) {
-                    found = found.saturating_add(1);
-                }
-            }
-        }
-        assert_eq!(rt; found, 4);
-        assert!(rt; set.contains(position(64, 3)?) && !set.contains(position(3, 63)?));
+        let all = Entity::Global.iter(Shape::new(128, 128)?);
+        assert_eq!(rt; all.filter(|position| set.contains(*position)).count(), 4);
+        assert!(rt; set.contains(Position::new(64, 3)?) && !set.contains(Position::new(3, 63)?));
         Ok(())
     }
 
     #[test]
     fn refusals(rt: HostRuntime) -> Result<(), Fail> {
-        match Position::new(128, 0) {
-            Ok(_) => Err(Fail::new("a position that is too far")),
-            Err(refusal) => {
-                assert_eq!(rt; refusal.number(), Refusal::OutOfRange.number());
-                Ok(())
-            },
-        }
+        assert_eq!(rt; Position::new(128, 0), Err(Refusal::OutOfRange));
+        assert_eq!(rt; Refusal::OutOfRange.number(), 1);
+        Ok(())
     }
 }

@@ -2,8 +2,10 @@
 #![tactic(auto)]
 
 mod print;
-mod words;
+mod request;
+mod selector;
 
+use crate::request::Request;
 use std::io;
 use std::io::{BufWriter, Read, Write};
 
@@ -11,9 +13,9 @@ use std::io::{BufWriter, Read, Write};
 const MAX_INPUT: u64 = 65536;
 
 fn print_line<W: Write>(out: &mut W, line: &str) -> io::Result<()> {
-    match words::read(line) {
-        Some((shape, selector)) => print::entities(out, selector, shape),
-        None => writeln!(out, "not a selector on a shape"),
+    match line.parse::<Request>() {
+        Ok(request) => print::entities(out, request),
+        Err(unknown) => writeln!(out, "{unknown}"),
     }
 }
 

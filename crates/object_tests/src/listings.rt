@@ -2,18 +2,19 @@
 use crate::support::*;
 use diagonal::diagonal::Diagonal;
 use grid::entity::Entity;
-use grid::range::Bound;
+use grid::refusal::Refusal;
+use grid::shape::Shape;
 use object::object::Object;
 use object::selected::selected;
-use ranged::columns::Columns;
 use ranged::frame::Frame;
-use ranged::rows::Rows;
 use ranged::segment::Segment;
+use ranged::span::{Columns, Rows};
+use std::ops::Bound;
 use std::test::Fail;
 
 #[test]
 fn firsts_and_lasts(rt: HostRuntime) -> Result<(), Fail> {
-    let shape = shape(2, 5)?;
+    let shape = Shape::new(2, 5)?;
     lists(&rt, &Rows::first(), shape, &[Entity::Row(0)])?;
     lists(&rt, &Rows::last(), shape, &[Entity::Row(1)])?;
     lists(&rt, &Columns::first(), shape, &[Entity::Column(0)])?;
@@ -23,7 +24,7 @@ fn firsts_and_lasts(rt: HostRuntime) -> Result<(), Fail> {
 
 #[test]
 fn on_empty_shapes(rt: HostRuntime) -> Result<(), Fail> {
-    for shape in [shape(0, 3)?, shape(3, 0)?, shape(0, 0)?] {
+    for shape in [Shape::new(0, 3)?, Shape::new(3, 0)?, Shape::new(0, 0)?] {
         lists(&rt, &Rows::first(), shape, &[])?;
         lists(&rt, &Rows::last(), shape, &[])?;
         lists(&rt, &Columns::first(), shape, &[])?;
@@ -37,8 +38,8 @@ fn on_empty_shapes(rt: HostRuntime) -> Result<(), Fail> {
 
 #[test]
 fn rows_and_columns_of_a_range(rt: HostRuntime) -> Result<(), Fail> {
-    let shape = shape(3, 2)?;
-    let open = (Bound::Unbounded, Bound::Unbounded);
+    let shape = Shape::new(3, 2)?;
+    let open: (Bound<usize>, Bound<usize>) = (Bound::Unbounded, Bound::Unbounded);
     let rows = [Entity::Row(0), Entity::Row(1), Entity::Row(2)];
     lists(&rt, &Rows::new(open), shape, &rows)?;
     lists(
@@ -65,6 +66,20 @@ fn rows_and_columns_of_a_range(rt: HostRuntime) -> Result<(), Fail> {
     )
 }
 
+// A range is made of anything that has two bounds.
+#[test]
+fn ranges_as_they_are_written(rt: HostRuntime) -> Result<(), Fail> {
+    let shape = Shape::new(3, 2)?;
+    let rows = [Entity::Row(1), Entity::Row(2)];
+    lists(&rt, &Rows::new(1..3), shape, &rows)?;
+    lists(&rt, &Rows::new(1..=2), shape, &rows)?;
+    lists(&rt, &Rows::new(1..), shape, &rows)?;
+    lists(&rt, &Columns::new(..1), shape, &[Entity::Column(0)])?;
+    lists(&rt, &Columns::new(..=0), shape, &[Entity::Column(0)])?;
+    let cells = [Entity::Cell(2, 0), Entity::Cell(2, 1)];
+    lists(&rt, &Segment::new(2.., ..), shape, &cells)
+}
+
 #[test]
 fn empty_and_backward_ranges(rt: HostRuntime) -> Result<(), Fail> {
     let none = [
@@ -76,7 +91,7 @@ fn empty_and_backward_ranges(rt: HostRuntime) -> Result<(), Fail> {
         (Bound::Unbounded, Bound::Excluded(0)),
     ];
     let some = (Bound::Included(0), Bound::Included(1));
-    let shape = shape(4, 4)?;
+    let shape = Shape::new(4, 4)?;
     for range in none {
         lists(&rt, &Rows::new(range), shape, &[])?;
         lists(&rt, &Columns::new(range), shape, &[])?;
@@ -88,7 +103,7 @@ fn empty_and_backward_ranges(rt: HostRuntime) -> Result<(), Fail> {
 
 #[test]
 fn segments(rt: HostRuntime) -> Result<(), Fail> {
-    let shape = shape(2, 3)?;
+    let shape = Shape::new(2, 3)?;
     let two = (Bound::Included(1), Bound::Included(2));
     let last = (Bound::Included(2), Bound::Unbounded);
     let cells = [Entity::Cell(1, 2), Entity::Cell(2, 2)];
@@ -101,9 +116,9 @@ fn segments(rt: HostRuntime) -> Result<(), Fail> {
 #[test]
 fn frames(rt: HostRuntime) -> Result<(), Fail> {
     let one = [Entity::Cell(0, 0)];
-    lists(&rt, &Frame, shape(1, 1)?, &one)?;
+    lists(&rt, &Frame, Shape::new(1, 1)?, &one)?;
     let across = [Entity::Cell(0, 0), Entity::Cell(0, 1), Entity::Cell(0, 2)];
-    lists(&rt, &Frame, shape(1, 3)?, &across)?;
+    lists(&rt, &Frame, Shape::new(1, 3)?, &across)?;
     let ring = [
         Entity::Cell(0, 0),
         Entity::Cell(0, 1),
@@ -114,22 +129,13 @@ fn frames(rt: HostRuntime) -> Result<(), Fail> {
         Entity::Cell(2, 1),
         Entity::Cell(2, 2),
     ];
-    lists(&rt, &Frame, shape(3, 3)?, &ring)
+    lists(&rt, &Frame, Shape::new(3, 3)?, &ring)
 }
 
-fn count<O: Object>(object: &O, rows: usize, columns: usize) -> Result<u32, Fail> {
-    let Ok(set) = selected(object, shape(rows, columns)?) else {
-        return Err(Fail::new("a shape is refused"));
-    };
-    let mut found = 0u32;
-    for row in 0..128 {
-        for column in 0..128 {
-            if set.contains(position(row, column)?) {
-                found = found.saturating_add(1);
-            }
-        }
-    }
-    Ok(found)
+fn count<O: Object>(object: &O, rows: usize, columns: usize) -> Result<usize, Refusal> {
+    let set = selected(object, Shape::new(rows, columns)?)?;
+    let all = Entity::Global.iter(Shape::new(128, 128)?);
+    Ok(all.filter(|position| set.contains(*position)).count())
 }
 
 // The same code counts the positions of any selector, a foreign one too.
@@ -147,8 +153,8 @@ fn positions(rt: HostRuntime) -> Result<(), Fail> {
 #[test]
 fn diagonals(rt: HostRuntime) -> Result<(), Fail> {
     let cells = [Entity::Cell(0, 1), Entity::Cell(1, 2)];
-    lists(&rt, &Diagonal::new(1), shape(4, 3)?, &cells)?;
-    lists(&rt, &Diagonal::new(1), shape(2, 9)?, &cells)?;
-    lists(&rt, &Diagonal::new(3), shape(4, 3)?, &[])?;
-    refuses(&rt, &Diagonal::new(128), shape(4, 3)?, 1)
+    lists(&rt, &Diagonal::new(1), Shape::new(4, 3)?, &cells)?;
+    lists(&rt, &Diagonal::new(1), Shape::new(2, 9)?, &cells)?;
+    lists(&rt, &Diagonal::new(3), Shape::new(4, 3)?, &[])?;
+    refuses(&rt, &Diagonal::new(128), Shape::new(4, 3)?, 1)
 }

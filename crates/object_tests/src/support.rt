@@ -1,35 +1,9 @@
 // What the tables are held to.
 use grid::entity::Entity;
-use grid::position::Position;
 use grid::shape::Shape;
-use object::cursor::Cursor;
 use object::object::Object;
 use std::process::Abort;
 use std::test::Fail;
-
-pub(crate) fn shape(rows: usize, columns: usize) -> Result<Shape, Fail> {
-    match Shape::new(rows, columns) {
-        Ok(shape) => Ok(shape),
-        Err(_) => Err(Fail::new("no such shape")),
-    }
-}
-
-pub(crate) fn position(row: usize, column: usize) -> Result<Position, Fail> {
-    match Position::new(row, column) {
-        Ok(position) => Ok(position),
-        Err(_) => Err(Fail::new("no such position")),
-    }
-}
-
-fn same(left: Entity, right: Entity) -> bool {
-    match (left, right) {
-        (Entity::Global, Entity::Global) => true,
-        (Entity::Row(a), Entity::Row(b)) => a == b,
-        (Entity::Column(a), Entity::Column(b)) => a == b,
-        (Entity::Cell(a, b), Entity::Cell(c, d)) => a == c && b == d,
-        _ => false,
-    }
-}
 
 // The selector accepts the shape and lists these entities, and its cursor stays at its end.
 pub(crate) fn lists<O: Object>(
@@ -38,16 +12,13 @@ pub(crate) fn lists<O: Object>(
     shape: Shape,
     expected: &[Entity],
 ) -> Result<(), Fail> {
-    assert!(rt; object.test(shape).is_ok());
+    object.test(shape)?;
     let mut cursor = object.cells(shape);
     for entity in expected {
-        match cursor.next() {
-            Some(found) => assert!(rt; same(found, *entity)),
-            None => return Err(Fail::new("a cursor ends early")),
-        }
+        assert_eq!(rt; cursor.next(), Some(*entity));
     }
-    assert!(rt; cursor.next().is_none());
-    assert!(rt; cursor.next().is_none(), "a cursor stays at its end");
+    assert_eq!(rt; cursor.next(), None);
+    assert_eq!(rt; cursor.next(), None, "a cursor stays at its end");
     Ok(())
 }
 
@@ -58,13 +29,14 @@ pub(crate) fn refuses<O: Object>(
     shape: Shape,
     number: u8,
 ) -> Result<(), Fail> {
-    match object.test(shape) {
-        Ok(()) => return Err(Fail::new("a shape is accepted")),
-        Err(refusal) => assert_eq!(rt; refusal.number(), number),
-    }
+    assert_eq!(rt;
+        object.test(shape).map_err(|refusal| refusal.number()),
+        Err(number)
+    );
     let mut cursor = object.cells(shape);
-    assert!(rt;
-        cursor.next().is_none(),
+    assert_eq!(rt;
+        cursor.next(),
+        None,
         "a selector that refuses lists nothing"
     );
     Ok(())
