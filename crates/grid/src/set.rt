@@ -1,5 +1,5 @@
 // A set of positions, one bit each.
-ghost use Rattle.std.specs.Prelude.{◌≡◌, ℕ, ◌+◌, ◌*◌, ◌<◌, false, ◌||◌};
+ghost use Rattle.std.specs.Prelude.{◌≡◌, ℕ, ◌+◌, ◌*◌, false, ◌||◌};
 ghost use Rattle.grid.specs.Positions.{same, coordinates};
 ghost use Rattle.grid.specs.Sets.{has};
 

@@ -6,9 +6,13 @@ use Rattle.std.specs.declared.ops.Bound.{Bound}
 use Rattle.grid.specs.declared.entity.Entity.{Entity}
 use Rattle.grid.specs.declared.entity.Entity.TheVariants.{Global}
 use Rattle.grid.specs.declared.refusal.Refusal.{Refusal}
+use Rattle.grid.specs.Cursors.{remaining}
 use Rattle.grid.specs.Positions.{Coordinates, member, InRowOrder, positions_of, sector, cell_at}
 use Rattle.grid.specs.Ranges.{resolved}
 use Rattle.object.specs.Meanings.{Meaning}
+use Rattle.ranged.specs.declared.frame.FrameIter.{FrameIter}
+use Rattle.ranged.specs.declared.segment.SectorIter.{SectorIter}
+use Rattle.ranged.specs.declared.span.SpanIter.{SpanIter}
 
 -- a start and an end
 abbrev pub Bounds : Type 0
@@ -60,3 +64,13 @@ OnEdge s a b = ((a ≡ 0) ⊎ (a + 1 ≡ s.rows)) ⊎ ((b ≡ 0) ⊎ (b + 1 ≡ 
 pub record ListsFrame (s : Shape) (ps : List Coordinates) : Type 0 where
   pub exactly : (a b : ℕ) → Decides (member (a, b) ps) ((a < s.rows) × (b < s.columns) × OnEdge s a b)
   pub ordered : InRowOrder ps
+
+-- what a cursor has still to list
+abbrev pub span_left : {A : Type 0} → (ℕ → Entity) → SpanIter A → List Entity
+span_left line s = lines line (s.numbers.start, s.numbers.end)
+
+abbrev pub sector_left : SectorIter → List Entity
+sector_left s = map cell_at (remaining s.positions)
+
+abbrev pub frame_left : FrameIter → List Entity
+frame_left s = map cell_at (edge_of s.shape (remaining s.positions))

@@ -1,10 +1,10 @@
 // The cells on the edge of the grid.
-ghost use Rattle.std.specs.Prelude.{◌≡◌, map};
+ghost use Rattle.std.specs.Prelude.{◌≡◌};
 ghost use Rattle.std.specs.Iterator.{YieldsFirst, item_count};
 ghost use Rattle.grid.specs.declared.entity.Entity.TheVariants.{Global};
 ghost use Rattle.grid.specs.Cursors.{remaining as positions_left};
-ghost use Rattle.grid.specs.Positions.{cell_at, coordinates, positions_of};
-ghost use Rattle.ranged.specs.Ranged.{is_on_edge, edge_of, frame_means, ListsFrame};
+ghost use Rattle.grid.specs.Positions.{coordinates, positions_of};
+ghost use Rattle.ranged.specs.Ranged.{is_on_edge, edge_of, frame_left, frame_means, ListsFrame};
 ghost use Rattle.ranged.specs.Laws.{frame};
 
 use grid::entity::Entity;
@@ -45,9 +45,9 @@ fn is_on_edge(position: Position, shape: Shape) -> bool
 impl Iterator for FrameIter {
     type Item = Entity;
 
-    ghost next_gives = { YieldsFirst (λ s. map cell_at (edge_of s.shape (positions_left s.positions))) };
+    ghost next_gives = { YieldsFirst frame_left };
 
-    ghost remaining = { item_count (λ s. map cell_at (edge_of s.shape (positions_left s.positions))) };
+    ghost remaining = { item_count frame_left };
 
     fn next(&mut self) -> Option<Entity> {
         // A loop, not `find`, whose proof asks a lemma over closures where this asks an invariant.
@@ -61,7 +61,7 @@ impl Iterator for FrameIter {
 }
 
 impl Cursor for FrameIter {
-    ghost to_come = { λ s. map cell_at (edge_of s.shape (positions_left s.positions)) };
+    ghost to_come = { frame_left };
 
     ghost ready = { λ s. tt };
 

@@ -1,9 +1,7 @@
 // The cells of a range of rows and a range of columns.
-ghost use Rattle.std.specs.Prelude.{◌≡◌, map};
+ghost use Rattle.std.specs.Prelude.{◌≡◌};
 ghost use Rattle.std.specs.Iterator.{YieldsFirst, item_count};
-ghost use Rattle.grid.specs.Cursors.{remaining as positions_left};
-ghost use Rattle.grid.specs.Positions.{cell_at};
-ghost use Rattle.ranged.specs.Ranged.{segment_means, sector_of};
+ghost use Rattle.ranged.specs.Ranged.{sector_left, segment_means, sector_of};
 ghost use Rattle.ranged.specs.Laws.{segment};
 
 use crate::span::{Columns, Rows};
@@ -24,9 +22,9 @@ pub struct SectorIter {
 impl Iterator for SectorIter {
     type Item = Entity;
 
-    ghost next_gives = { YieldsFirst (λ s. map cell_at (positions_left s.positions)) };
+    ghost next_gives = { YieldsFirst sector_left };
 
-    ghost remaining = { item_count (λ s. map cell_at (positions_left s.positions)) };
+    ghost remaining = { item_count sector_left };
 
     fn next(&mut self) -> Option<Entity> {
         self.positions.next().map(|p| Entity::from(p))
@@ -34,7 +32,7 @@ impl Iterator for SectorIter {
 }
 
 impl Cursor for SectorIter {
-    ghost to_come = { λ s. map cell_at (positions_left s.positions) };
+    ghost to_come = { sector_left };
 
     ghost ready = { λ s. tt };
 

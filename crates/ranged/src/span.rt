@@ -2,7 +2,7 @@
 ghost use Rattle.std.specs.Prelude.{◌≡◌};
 ghost use Rattle.std.specs.Iterator.{YieldsFirst, item_count};
 ghost use Rattle.grid.specs.Ranges.{resolved};
-ghost use Rattle.ranged.specs.Ranged.{lines, span_means};
+ghost use Rattle.ranged.specs.Ranged.{span_left, span_means};
 ghost use Rattle.ranged.specs.Laws.{span};
 
 use grid::entity::Entity;
@@ -26,9 +26,9 @@ pub struct SpanIter<A> {
 impl<A: Axis> Iterator for SpanIter<A> {
     type Item = Entity;
 
-    ghost next_gives = { YieldsFirst (λ s. lines A.line (s.numbers.start, s.numbers.end)) };
+    ghost next_gives = { YieldsFirst (span_left A.line) };
 
-    ghost remaining = { item_count (λ s. lines A.line (s.numbers.start, s.numbers.end)) };
+    ghost remaining = { item_count (span_left A.line) };
 
     #[tactic(auto, using(crate::proofs::Spans::numbers_none, crate::proofs::Spans::numbers_first))]
     fn next(&mut self) -> Option<Entity> {
@@ -38,7 +38,7 @@ impl<A: Axis> Iterator for SpanIter<A> {
 }
 
 impl<A: Axis> Cursor for SpanIter<A> {
-    ghost to_come = { λ s. lines A.line (s.numbers.start, s.numbers.end) };
+    ghost to_come = { span_left A.line };
 
     ghost ready = { λ s. tt };
 
