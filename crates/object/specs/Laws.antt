@@ -95,15 +95,19 @@ cell_tells s q p e =
 abbrev pub Lawful : Shape → Meaning → Type 0
 Lawful s m = Bounded (entities m) × Distinct (positions s (entities m))
 
--- one entity or none has no position twice
-pub distinct_at_most_one : (s : Shape) (m : Result (Option Entity) Refusal) → Distinct (positions s (entities (at_most_one m)))
-distinct_at_most_one s (Err e) = tt
-distinct_at_most_one s (Ok None) = tt
-distinct_at_most_one s (Ok (Some e)) = distinct_single s e
+-- one entity
+pub one : (s : Shape) (e : Entity) → is_small e ≡ true → Lawful s (Ok (e ∷ []))
+one s e h = ((h, tt), distinct_single s e)
 
 -- no number of an entity that may be refused is above 127
 abbrev pub Small : Result (Option Entity) Refusal → Type 0
 Small m = Bounded (entities (at_most_one m))
+
+-- one entity or none has no position twice, so a refusal, an entity or nothing meets both laws where no number is above 127
+pub lawful_at_most_one : (s : Shape) (m : Result (Option Entity) Refusal) → Small m → Lawful s (at_most_one m)
+lawful_at_most_one s (Err e) h = (tt, tt)
+lawful_at_most_one s (Ok None) h = (tt, tt)
+lawful_at_most_one s (Ok (Some e)) h = one s e h.0
 
 -- what holds of a refusal, and of a meaning where the number is in range, holds of both together
 pub up_to : {X : Type 0} (P : Result X Refusal → Type 0) (n : ℕ) (m : Result X Refusal) → P (Err OutOfRange) → (n < 128 → P m) → P (up_to_127 n m)

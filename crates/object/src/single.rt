@@ -4,7 +4,7 @@ ghost use Rattle.grid.specs.declared.entity.Entity.{Entity};
 ghost use Rattle.grid.specs.declared.refusal.Refusal.{Refusal};
 ghost use Rattle.grid.specs.declared.shape.Shape.{Shape};
 ghost use Rattle.object.specs.Meanings.{entities, at_most_one, Bounded};
-ghost use Rattle.object.specs.Laws.{distinct_at_most_one};
+ghost use Rattle.object.specs.Laws.{lawful_at_most_one};
 
 use crate::object::Object;
 use grid::entity::Entity;
@@ -28,9 +28,9 @@ impl<T: Single> Object for T {
 
     ghost meaning = { λ x s. at_most_one (T.meant x s) };
 
-    ghost bounded = { T.small };
+    ghost bounded = { λ x s. (lawful_at_most_one s (T.meant x s) (T.small x s)).0 };
 
-    ghost distinct = { λ x s. distinct_at_most_one s (T.meant x s) };
+    ghost distinct = { λ x s. (lawful_at_most_one s (T.meant x s) (T.small x s)).1 };
 
     fn test(&self, shape: Shape) -> Result<(), Refusal> {
         self.entity(shape)?;
