@@ -76,15 +76,18 @@ abbrev pub InRowOrder : List Coordinates → Type 0
 InRowOrder [] = Unit {0}
 InRowOrder (p ∷ ps) = ((q : Coordinates) → member q ps ≡ true → Before p q) × InRowOrder ps
 
--- the list has just the positions of the entity, row by row
-pub record Lists (s : Shape) (e : Entity) (ps : List Coordinates) : Type 0 where
-  pub exactly : (a b : ℕ) → Decides (member (a, b) ps) ((0 < s.rows) × (0 < s.columns) × (is_small e ≡ true) × LiesIn s e a b)
+-- the list has just the positions with a row and a column of which P holds, row by row
+pub record ListsExactly (P : ℕ → ℕ → Type 0) (ps : List Coordinates) : Type 0 where
+  pub exactly : (a b : ℕ) → Decides (member (a, b) ps) (P a b)
   pub ordered : InRowOrder ps
+
+-- just the positions of the entity
+abbrev pub Lists : Shape → Entity → List Coordinates → Type 0
+Lists s e = ListsExactly (λ a b. (0 < s.rows) × (0 < s.columns) × (is_small e ≡ true) × LiesIn s e a b)
 
 abbrev pub InRange : ℕ × ℕ → ℕ → Type 0
 InRange range n = (range.0 ≤ n) × (n < range.1) × (n < 128)
 
--- the list has just the positions of the sector, row by row
-pub record ListsSector (rows columns : ℕ × ℕ) (ps : List Coordinates) : Type 0 where
-  pub exactly : (a b : ℕ) → Decides (member (a, b) ps) (InRange rows a × InRange columns b)
-  pub ordered : InRowOrder ps
+-- just the positions of the sector
+abbrev pub ListsSector : ℕ × ℕ → ℕ × ℕ → List Coordinates → Type 0
+ListsSector rows columns = ListsExactly (λ a b. InRange rows a × InRange columns b)

@@ -19,7 +19,7 @@ fn print_line<W: Write>(out: &mut W, line: &str) -> io::Result<()> {
     }
 }
 
-fn run(rt: &HostRuntime) -> anyhow::Result<()> {
+fn main(rt: HostRuntime) -> anyhow::Result<()> {
     let mut text = String::new(rt.alloc());
     rt.stdin().take(MAX_INPUT).read_to_string(&mut text)?;
     let mut out = BufWriter::new(rt.alloc(), rt.stdout())?;
@@ -28,8 +28,4 @@ fn run(rt: &HostRuntime) -> anyhow::Result<()> {
     }
     out.flush()?;
     Ok(())
-}
-
-fn main(rt: HostRuntime) -> anyhow::Result<()> {
-    run(&rt)
 }

@@ -1,5 +1,5 @@
 -- What the selectors over ranges mean, and the frame.
-use Rattle.std.specs.Prelude.{◌≡◌, ℕ, ◌+◌, ◌-◌, ◌<◌, Bool, ◌||◌, ◌⊎◌, List, map, Ok, Err, Decides, filter, Result, ◌==◌}
+use Rattle.std.specs.Prelude.{◌≡◌, ℕ, ◌+◌, ◌-◌, ◌<◌, Bool, ◌||◌, ◌⊎◌, List, map, Ok, Err, filter, Result, ◌==◌}
 use Rattle.std.specs.List.{range_with_len}
 use Rattle.grid.specs.declared.shape.Shape.{Shape}
 use Rattle.std.specs.declared.ops.Bound.{Bound}
@@ -7,7 +7,7 @@ use Rattle.grid.specs.declared.entity.Entity.{Entity}
 use Rattle.grid.specs.declared.entity.Entity.TheVariants.{Global}
 use Rattle.grid.specs.declared.refusal.Refusal.{Refusal}
 use Rattle.grid.specs.Cursors.{remaining}
-use Rattle.grid.specs.Positions.{Coordinates, member, InRowOrder, positions_of, sector, cell_at}
+use Rattle.grid.specs.Positions.{Coordinates, ListsExactly, positions_of, sector, cell_at}
 use Rattle.grid.specs.Ranges.{resolved}
 use Rattle.object.specs.Meanings.{Meaning}
 use Rattle.ranged.specs.declared.frame.FrameIter.{FrameIter}
@@ -61,9 +61,8 @@ abbrev pub OnEdge : Shape → ℕ → ℕ → Type 0
 OnEdge s a b = ((a ≡ 0) ⊎ (a + 1 ≡ s.rows)) ⊎ ((b ≡ 0) ⊎ (b + 1 ≡ s.columns))
 
 -- the list has just the positions on the edge of the grid, row by row
-pub record ListsFrame (s : Shape) (ps : List Coordinates) : Type 0 where
-  pub exactly : (a b : ℕ) → Decides (member (a, b) ps) ((a < s.rows) × (b < s.columns) × OnEdge s a b)
-  pub ordered : InRowOrder ps
+abbrev pub ListsFrame : Shape → List Coordinates → Type 0
+ListsFrame s = ListsExactly (λ a b. (a < s.rows) × (b < s.columns) × OnEdge s a b)
 
 -- what a cursor has still to list
 abbrev pub span_left : {A : Type 0} → (ℕ → Entity) → SpanIter A → List Entity
