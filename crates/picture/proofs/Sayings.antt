@@ -1,5 +1,5 @@
 -- The three numbers that a line says.
-use Rattle.std.proofs.Common.{◌≡◌, ℕ, List, ◌∷◌, ◌++◌, sym, refl, ap, ◌∙◌, subst, arith}
+use Rattle.std.proofs.Common.{◌≡◌, ℕ, List, ◌∷◌, ◌++◌, sym, refl, ◌∙◌, subst, arith}
 use Rattle.picture.specs.Lines.{Without, Cut}
 use Rattle.picture.specs.Requests.{Numeral, Says}
 use Rattle.picture.proofs.Cuts.{same_cut, no_cut}
@@ -27,9 +27,6 @@ pub other_numbers : (line f r g t : List ℕ) → Cut 32 line f r → Cut 32 r g
 other_numbers line f r g t cut next a b c s =
     let p = same_cut 32 g s.1 t s.2 next.0 (numeral_without s.1 b s.5) (sym next.1 ∙ (before_space line f r cut a b c s).1) in
     (subst (λ x. Numeral x b) (sym p.0) s.5, subst (λ x. Numeral x c) (sym p.1) s.6)
-
-pub said : (line f r g t : List ℕ) (a b c : ℕ) → Cut 32 line f r → Cut 32 r g t → Numeral f a → Numeral g b → Numeral t c → Says line a b c
-said line f r g t a b c cut next x y z = (f, g, t, cut.1 ∙ ap (λ rest. f ++ 32 ∷ rest) next.1, x, y, z)
 
 same_value : (digits : List ℕ) (m n : ℕ) → Numeral digits m → Numeral digits n → m ≡ n
 same_value digits m n x y = x.value ∙ sym y.value

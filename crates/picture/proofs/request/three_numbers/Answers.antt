@@ -1,4 +1,4 @@
-use Rattle.picture.proofs.Sayings.{unspaced, unspaced_rest, first_number, other_numbers, said}
+use Rattle.picture.proofs.Sayings.{unspaced, unspaced_rest, first_number, other_numbers}
 use Rattle.picture.proofs.request.three_numbers.Goals as goal
 
 pub returns-in_err-first : goal.returns-in_err-first
@@ -28,9 +28,3 @@ returns-in_err-number-3 c =
     (λ x y z s. c.in_err-number-3.ensures z
     (other_numbers c.args.line.now c.in_ok-first.first.now c.in_ok-first.rest.now c.in_ok-second.second.now c.in_ok-second.third.now
     c.in_ok-first.ensures c.in_ok-second.ensures x y z s).1)
-
-pub returns : goal.returns
-returns c =
-    said c.args.line.now c.in_ok-first.first.now c.in_ok-first.rest.now c.in_ok-second.second.now c.in_ok-second.third.now
-    _ _ _ c.in_ok-first.ensures c.in_ok-second.ensures
-    c.in_ok-number.ensures c.in_ok-number-2.ensures c.in_ok-number-3.ensures
