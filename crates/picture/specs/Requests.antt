@@ -31,9 +31,14 @@ pub record Numeral (digits : List ℕ) (n : ℕ) : Type 0 where
   pub value : n ≡ decimal digits
 
 -- the line is the digits of three numbers with single spaces, which are byte 32, between them
-abbrev pub Says : List ℕ → ℕ → ℕ → ℕ → Type 0
-Says line a b c =
-    (x : List ℕ) × (y : List ℕ) × (z : List ℕ) × (line ≡ x ++ 32 ∷ (y ++ 32 ∷ z)) × Numeral x a × Numeral y b × Numeral z c
+pub record Says (line : List ℕ) (a b c : ℕ) : Type 0 where
+  pub first : List ℕ
+  pub second : List ℕ
+  pub third : List ℕ
+  pub joined : line ≡ first ++ 32 ∷ (second ++ 32 ∷ third)
+  pub writes_a : Numeral first a
+  pub writes_b : Numeral second b
+  pub writes_c : Numeral third c
 
 -- the line says the rows and the columns of the shape, at most 32 of each, and the number of the choice
 pub record Asks (line : List ℕ) (request : Request) : Type 0 where

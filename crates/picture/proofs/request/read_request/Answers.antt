@@ -20,7 +20,7 @@ returns-then-rows-gt-MAX_PRINTED c = (
   refl,
   λ q a.
       let said = rw c.in_ok-rows.ensures.ok_part at c.three_numbers.ensures in
-      let e = says_one c.args.line.now _ _ _ _ _ _ said a.says in
+      let e = says_one said a.says in
       ⊎_elim (λ h. omega (arith, e.0, a.tall)) (λ h. omega (arith, h.1, e.1, a.wide)) c.then-rows-gt-MAX_PRINTED.either,
 )
 
@@ -28,4 +28,4 @@ pub returns-in_err-choice : goal.returns-in_err-choice
 returns-in_err-choice c =
     let p = err_from_is_err_and c.from_residual-in_err-choice.result c.from_residual-in_err-choice.ensures.1 in
     let said = rw c.in_ok-rows.ensures.ok_part at c.three_numbers.ensures in
-    rw (p.1, p.2) (c.in_err-choice.ensures.0, λ q a. c.in_err-choice.ensures.1 q.choice (sym (says_one c.args.line.now _ _ _ _ _ _ said a.says).2))
+    rw (p.1, p.2) (c.in_err-choice.ensures.0, λ q a. c.in_err-choice.ensures.1 q.choice (sym (says_one said a.says).2))
