@@ -14,10 +14,10 @@ unspaced {line = line} w a b c s = no_cut 32 line s.first (s.second ++ 32 ∷ s.
 -- what stands before the first space, and behind it
 before_space : {line f r : List ℕ} {a b c : ℕ} → Cut 32 line f r → (s : Says line a b c) → (f ≡ s.first) × (r ≡ s.second ++ 32 ∷ s.third)
 before_space {f = f} {r = r} cut s =
-    same_cut 32 f s.first r (s.second ++ 32 ∷ s.third) cut.first (numeral_without s.writes_a) (sym cut.joined ∙ s.joined)
+    same_cut 32 f s.first r (s.second ++ 32 ∷ s.third) cut.first (numeral_without s.first_writes) (sym cut.joined ∙ s.joined)
 
 pub first_number : {line f r : List ℕ} → Cut 32 line f r → {a b c : ℕ} → Says line a b c → Numeral f a
-first_number cut {a = a} s = subst (λ x. Numeral x a) (sym (before_space cut s).0) s.writes_a
+first_number cut {a = a} s = subst (λ x. Numeral x a) (sym (before_space cut s).0) s.first_writes
 
 -- a line of three numbers has a second space
 pub unspaced_rest : {line f r : List ℕ} → Cut 32 line f r → Without 32 r → (a b c : ℕ) → Says line a b c → ⊥
@@ -25,8 +25,8 @@ unspaced_rest {r = r} cut w a b c s = no_cut 32 r s.second s.third w (before_spa
 
 pub other_numbers : {line f r g t : List ℕ} → Cut 32 line f r → Cut 32 r g t → {a b c : ℕ} → Says line a b c → Numeral g b × Numeral t c
 other_numbers {g = g} {t = t} cut next {b = b} {c = c} s =
-    let p = same_cut 32 g s.second t s.third next.first (numeral_without s.writes_b) (sym next.joined ∙ (before_space cut s).1) in
-    (subst (λ x. Numeral x b) (sym p.0) s.writes_b, subst (λ x. Numeral x c) (sym p.1) s.writes_c)
+    let p = same_cut 32 g s.second t s.third next.first (numeral_without s.second_writes) (sym next.joined ∙ (before_space cut s).1) in
+    (subst (λ x. Numeral x b) (sym p.0) s.second_writes, subst (λ x. Numeral x c) (sym p.1) s.third_writes)
 
 same_value : {digits : List ℕ} {m n : ℕ} → Numeral digits m → Numeral digits n → m ≡ n
 same_value x y = x.value ∙ sym y.value
@@ -35,7 +35,7 @@ same_value x y = x.value ∙ sym y.value
 pub says_one : {line : List ℕ} {a b c a' b' c' : ℕ} → Says line a b c → Says line a' b' c' → (a ≡ a') × (b ≡ b') × (c ≡ c')
 says_one {line = line} s t =
     let rest = s.second ++ 32 ∷ s.third in
-    let cut : Cut 32 line s.first rest = record { first = numeral_without s.writes_a; joined = s.joined } in
-    let next : Cut 32 rest s.second s.third = record { first = numeral_without s.writes_b; joined = refl } in
+    let cut : Cut 32 line s.first rest = record { first = numeral_without s.first_writes; joined = s.joined } in
+    let next : Cut 32 rest s.second s.third = record { first = numeral_without s.second_writes; joined = refl } in
     let others = other_numbers cut next t in
-    (same_value s.writes_a (first_number cut t), same_value s.writes_b others.0, same_value s.writes_c others.1)
+    (same_value s.first_writes (first_number cut t), same_value s.second_writes others.0, same_value s.third_writes others.1)

@@ -36,9 +36,9 @@ pub record Says (line : List ℕ) (a b c : ℕ) : Type 0 where
   pub second : List ℕ
   pub third : List ℕ
   pub joined : line ≡ first ++ 32 ∷ (second ++ 32 ∷ third)
-  pub writes_a : Numeral first a
-  pub writes_b : Numeral second b
-  pub writes_c : Numeral third c
+  pub first_writes : Numeral first a
+  pub second_writes : Numeral second b
+  pub third_writes : Numeral third c
 
 -- the line says the rows and the columns of the shape, at most 32 of each, and the number of the choice
 pub record Asks (line : List ℕ) (request : Request) : Type 0 where

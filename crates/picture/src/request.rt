@@ -57,10 +57,10 @@ fn number(field: &[u8]) -> Option<usize>
     }
     let mut value: usize = 0;
     for b in field {
-        if *b < b'0' || *b > b'9' {
+        if !b.is_ascii_digit() {
             return None;
         }
-        value = value * 10 + (*b - b'0') as usize;
+        value = value * 10 + usize::from(*b - b'0');
     }
     Some(value)
 }

@@ -36,17 +36,11 @@ impl<'a> Iterator for Lines<'a> {
     ghost remaining = { λ lines. at_most (length lines.rest.now) };
 
     fn next(&mut self) -> Option<&'a [u8]> {
-        let text = self.rest;
-        match split_once(text, LINE_END) {
-            Some((line, rest)) => {
-                self.rest = rest;
-                Some(line)
-            }
-            None if text.is_empty() => None,
-            None => {
-                self.rest = &[];
-                Some(text)
-            }
+        if self.rest.is_empty() {
+            return None;
         }
+        let (line, rest) = split_once(self.rest, LINE_END).unwrap_or((self.rest, &[]));
+        self.rest = rest;
+        Some(line)
     }
 }
