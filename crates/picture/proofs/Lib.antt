@@ -1,3 +1,4 @@
 pub mod Cuts
 pub mod Sayings
 pub mod Layouts
+pub mod Responses

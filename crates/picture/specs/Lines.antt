@@ -7,8 +7,9 @@ abbrev pub Without : ℕ → List ℕ → Type 0
 Without byte text = (k : ℕ) → k < length text → slice_index text k ≢ byte
 
 -- the text is a front without the byte, the byte, and what stands behind it
-abbrev pub Cut : ℕ → List ℕ → List ℕ → List ℕ → Type 0
-Cut byte text front behind = Without byte front × (text ≡ front ++ byte ∷ behind)
+pub record Cut (byte : ℕ) (text front behind : List ℕ) : Type 0 where
+  pub first : Without byte front
+  pub joined : text ≡ front ++ byte ∷ behind
 
 -- A line goes to the first line end, which is byte 10, and the text goes on behind that;
 -- the last line may lack its line end, and an empty text has no line.

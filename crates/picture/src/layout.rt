@@ -2,6 +2,7 @@
 ghost use Rattle.std.specs.Prelude.{◌≡◌, ℕ, ◌+◌, ◌*◌, ◌<◌, ◌≤◌, length, MatchOption};
 ghost use Rattle.picture.specs.Pictures.{On, Stands, width_of, Shows, LaidOut};
 
+use crate::text::LINE_END;
 use grid::place::Place;
 use grid::refusal::Refusal;
 use grid::shape::Shape;
@@ -10,10 +11,8 @@ const BLANK: u8 = b'.';
 
 const CELL: u8 = b'o';
 
-const LINE_END: u8 = b'\n';
-
 // What a character of the picture stands for.
-#[derive(Clone, Copy)]
+#[derive(Clone, Copy, Debug, PartialEq, Eq)]
 pub enum Spot {
     Mark(Place),
     Cell(usize, usize),
@@ -21,7 +20,7 @@ pub enum Spot {
 
 // What stands at this line and column of the picture; none outside it.
 pub fn spot_at(shape: Shape, line: usize, column: usize) -> Option<Spot>
-    ensures { MatchOption result ((s : Spot) → On shape.rows shape.columns s → Stands s line column → ⊥) (λ s. On shape.rows shape.columns s × Stands s line column) }
+    ensures { MatchOption result ((s : Spot) → On shape s → Stands s line column → ⊥) (λ s. On shape s × Stands s line column) }
 {
     if line > 2 * shape.rows() || column > 2 * shape.columns() {
         return None;
@@ -38,14 +37,14 @@ pub fn spot_at(shape: Shape, line: usize, column: usize) -> Option<Spot>
 
 // How many characters a line of the picture has, its line end included.
 fn width(shape: Shape) -> usize
-    ensures { result ≡ width_of shape.columns }
+    ensures { result ≡ width_of shape }
 {
     2 * shape.columns() + 2
 }
 
 // Character k of the picture, counted line by line: nothing is drawn, so every place is blank.
 fn character(shape: Shape, k: usize) -> u8
-    ensures { Shows shape.rows shape.columns k result }
+    ensures { Shows shape k result }
 {
     let width = width(shape);
     match spot_at(shape, k / width, k % width) {
@@ -57,14 +56,14 @@ fn character(shape: Shape, k: usize) -> u8
 
 // Writes the picture to the front of the page, and answers how long it is.
 pub fn lay_out(shape: Shape, page: &mut [u8]) -> Result<usize, Refusal>
-    ensures { LaidOut shape.rows shape.columns page.old result page.new }
+    ensures { LaidOut shape page.old result page.new }
 {
     let size = (2 * shape.rows() + 1) * width(shape);
     if page.len() < size {
         return Err(Refusal::ShortTable);
     }
-    for k in 0..size {
-        page[k] = character(shape, k);
+    for (k, byte) in page[..size].iter_mut().enumerate() {
+        *byte = character(shape, k);
     }
     Ok(size)
 }

@@ -1,6 +1,6 @@
 // What a line asks for: a sheet's rows and columns, and which cells are drawn round.
 ghost use Rattle.std.specs.Prelude.{◌≡◌, ℕ, MatchOption, MatchResult, ◌≢◌};
-ghost use Rattle.picture.specs.Requests.{Numeral, Says, Asks, choice_number};
+ghost use Rattle.picture.specs.Requests.{Numeral, Says, Asks, Chooses};
 
 use crate::text::split_once;
 use grid::refusal::Refusal;
@@ -9,7 +9,7 @@ use grid::shape::Shape;
 // The program prints sheets of at most this many rows and columns.
 pub const MAX_PRINTED: usize = 32;
 
-#[derive(Clone, Copy)]
+#[derive(Clone, Copy, Debug, PartialEq, Eq)]
 pub enum Choice {
     FirstRow,
     LastColumn,
@@ -23,24 +23,26 @@ pub enum Choice {
     InnerCells,
 }
 
-impl Choice {
-    // The choice of this number; there are six, counted from 1.
-    pub fn from_number(number: usize) -> Option<Choice>
-        ensures { MatchOption result ((k : Choice) → choice_number k ≢ number) (λ k. choice_number k ≡ number) }
-    {
+// The choice of a number; there are six, counted from 1.
+impl TryFrom<usize> for Choice {
+    type Error = Refusal;
+
+    ghost try_from_gives = { Chooses };
+
+    fn try_from(number: usize) -> Result<Self, Refusal> {
         match number {
-            1 => Some(Choice::FirstRow),
-            2 => Some(Choice::LastColumn),
-            3 => Some(Choice::AllButOne),
-            4 => Some(Choice::TwoCells),
-            5 => Some(Choice::PastLastRow),
-            6 => Some(Choice::InnerCells),
-            _ => None,
+            1 => Ok(Choice::FirstRow),
+            2 => Ok(Choice::LastColumn),
+            3 => Ok(Choice::AllButOne),
+            4 => Ok(Choice::TwoCells),
+            5 => Ok(Choice::PastLastRow),
+            6 => Ok(Choice::InnerCells),
+            _ => Err(Refusal::OutOfRange),
         }
     }
 }
 
-#[derive(Clone, Copy)]
+#[derive(Clone, Copy, Debug, PartialEq, Eq)]
 pub struct Request {
     pub shape: Shape,
     pub choice: Choice,
@@ -50,15 +52,15 @@ pub struct Request {
 fn number(field: &[u8]) -> Option<usize>
     ensures { MatchOption result ((n : ℕ) → Numeral field.now n → ⊥) (λ n. Numeral field.now n) }
 {
-    if field.len() == 0 || field.len() > 3 {
+    if field.is_empty() || field.len() > 3 {
         return None;
     }
     let mut value: usize = 0;
     for b in field {
-        if *b < b'0' || *b > b'9' {
+        if !b.is_ascii_digit() {
             return None;
         }
-        value = value * 10 + (*b - b'0') as usize;
+        value = value * 10 + usize::from(*b - b'0');
     }
     Some(value)
 }
@@ -74,17 +76,13 @@ fn three_numbers(line: &[u8]) -> Option<(usize, usize, usize)>
 
 // What the line asks for; any other line is out of range.
 pub fn read_request(line: &[u8]) -> Result<Request, Refusal>
-    ensures { MatchResult result (λ q. Asks line.now q.shape.rows q.shape.columns (choice_number q.choice)) (λ e. (e ≡ Refusal.OutOfRange) × ((rows columns choice : ℕ) → Asks line.now rows columns choice → ⊥)) }
+    ensures { MatchResult result (λ q. Asks line.now q) (λ e. (e ≡ Refusal.OutOfRange) × ((q : Request) → Asks line.now q → ⊥)) }
 {
-    let Some((rows, columns, choice)) = three_numbers(line) else {
-        return Err(Refusal::OutOfRange);
-    };
+    let (rows, columns, choice) = three_numbers(line).ok_or(Refusal::OutOfRange)?;
     if rows > MAX_PRINTED || columns > MAX_PRINTED {
         return Err(Refusal::OutOfRange);
     }
-    let Some(choice) = Choice::from_number(choice) else {
-        return Err(Refusal::OutOfRange);
-    };
     let shape = Shape::new(rows, columns)?;
+    let choice = Choice::try_from(choice)?;
     Ok(Request { shape, choice })
 }

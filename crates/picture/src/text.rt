@@ -1,19 +1,16 @@
 // Text cut at a byte, and cut into lines.
-ghost use Rattle.std.specs.Prelude.{◌≡◌, MatchOption};
+ghost use Rattle.std.specs.Prelude.{◌≡◌, MatchOption, length};
+ghost use Rattle.std.specs.Iterator.{at_most};
 ghost use Rattle.picture.specs.Lines.{Without, Cut, FirstLine};
 
-const LINE_END: u8 = b'\n';
+pub(crate) const LINE_END: u8 = b'\n';
 
 // The text before the first such byte and the text behind it; none where there is no such byte.
 pub fn split_once(text: &[u8], byte: u8) -> Option<(&[u8], &[u8])>
     ensures { MatchOption result (Without byte text.now) (λ p. Cut byte text.now p.0.now p.1.now) }
 {
-    for i in 0..text.len() {
-        if text[i] == byte {
-            return Some((&text[0..i], &text[i + 1..]));
-        }
-    }
-    None
+    let i = text.iter().position(|b| *b == byte)?;
+    Some((&text[..i], &text[i + 1..]))
 }
 
 // A cursor over the lines of a text.
@@ -28,22 +25,22 @@ impl<'a> Lines<'a> {
     {
         Lines { rest: text }
     }
+}
 
-    // The next line without its line end, which the last one may lack.
-    pub fn next(&mut self) -> Option<&'a [u8]>
-        ensures { FirstLine self.old.rest.now result self.new.rest.now }
-    {
-        let text = self.rest;
-        match split_once(text, LINE_END) {
-            Some((line, rest)) => {
-                self.rest = rest;
-                Some(line)
-            }
-            None if text.len() == 0 => None,
-            None => {
-                self.rest = &text[text.len()..];
-                Some(text)
-            }
+// A line comes without its line end, which the last one may lack.
+impl<'a> Iterator for Lines<'a> {
+    type Item = &'a [u8];
+
+    ghost next_gives = { λ lines line after. FirstLine lines.rest.now line after.rest.now };
+
+    ghost remaining = { λ lines. at_most (length lines.rest.now) };
+
+    fn next(&mut self) -> Option<&'a [u8]> {
+        if self.rest.is_empty() {
+            return None;
         }
+        let (line, rest) = split_once(self.rest, LINE_END).unwrap_or((self.rest, &[]));
+        self.rest = rest;
+        Some(line)
     }
 }

@@ -13,17 +13,13 @@ const PAGE: usize = 65 * 66;
 
 fn print_answer<W: Write>(out: &mut W, line: &[u8], page: &mut [u8]) -> io::Result<()> {
     match respond(line, page) {
-        Ok(n) => out.write_all(&page[0..n]),
-        Err(refusal) => {
-            let number = refusal.number();
-            writeln!(out, "refused {number}")
-        }
+        Ok(n) => out.write_all(&page[..n]),
+        Err(refusal) => writeln!(out, "{refusal}"),
     }
 }
 
 fn print_answers<W: Write>(out: &mut W, text: &[u8], page: &mut [u8]) -> io::Result<()> {
-    let mut lines = Lines::new(text);
-    while let Some(line) = lines.next() {
+    for line in Lines::new(text) {
         print_answer(out, line, page)?;
     }
     out.flush()

@@ -1,36 +1,22 @@
-use Rattle.picture.proofs.Sayings.{unspaced, unspaced_rest, first_number, other_numbers, said}
+use Rattle.picture.proofs.Sayings.{unspaced, unspaced_rest, first_number, other_numbers}
 use Rattle.picture.proofs.request.three_numbers.Goals as goal
 
 pub returns-in_err-first : goal.returns-in_err-first
-returns-in_err-first c = rw c.from_residual.ensures (unspaced c.args.line.now c.in_err-first.ensures)
+returns-in_err-first c = rw c.from_residual.ensures (unspaced c.in_err-first.ensures)
 
 pub returns-in_err-second : goal.returns-in_err-second
-returns-in_err-second c =
-    rw c.from_residual-in_err-second.ensures
-    (unspaced_rest c.args.line.now c.in_ok-first.first.now c.in_ok-first.rest.now c.in_ok-first.ensures c.in_err-second.ensures)
+returns-in_err-second c = rw c.from_residual-in_err-second.ensures (unspaced_rest c.in_ok-first.ensures c.in_err-second.ensures)
 
 pub returns-in_err-number : goal.returns-in_err-number
 returns-in_err-number c =
-    rw c.from_residual-in_err-number.ensures
-    (λ x y z s. c.in_err-number.ensures x
-    (first_number c.args.line.now c.in_ok-first.first.now c.in_ok-first.rest.now c.in_ok-first.ensures x y z s))
+    rw c.from_residual-in_err-number.ensures (λ x y z s. c.in_err-number.ensures x (first_number c.in_ok-first.ensures s))
 
 pub returns-in_err-number-2 : goal.returns-in_err-number-2
 returns-in_err-number-2 c =
     rw c.from_residual-in_err-number-2.ensures
-    (λ x y z s. c.in_err-number-2.ensures y
-    (other_numbers c.args.line.now c.in_ok-first.first.now c.in_ok-first.rest.now c.in_ok-second.second.now c.in_ok-second.third.now
-    c.in_ok-first.ensures c.in_ok-second.ensures x y z s).0)
+    (λ x y z s. c.in_err-number-2.ensures y (other_numbers c.in_ok-first.ensures c.in_ok-second.ensures s).0)
 
 pub returns-in_err-number-3 : goal.returns-in_err-number-3
 returns-in_err-number-3 c =
     rw c.from_residual-in_err-number-3.ensures
-    (λ x y z s. c.in_err-number-3.ensures z
-    (other_numbers c.args.line.now c.in_ok-first.first.now c.in_ok-first.rest.now c.in_ok-second.second.now c.in_ok-second.third.now
-    c.in_ok-first.ensures c.in_ok-second.ensures x y z s).1)
-
-pub returns : goal.returns
-returns c =
-    said c.args.line.now c.in_ok-first.first.now c.in_ok-first.rest.now c.in_ok-second.second.now c.in_ok-second.third.now
-    _ _ _ c.in_ok-first.ensures c.in_ok-second.ensures
-    c.in_ok-number.ensures c.in_ok-number-2.ensures c.in_ok-number-3.ensures
+    (λ x y z s. c.in_err-number-3.ensures z (other_numbers c.in_ok-first.ensures c.in_ok-second.ensures s).1)
