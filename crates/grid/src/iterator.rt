@@ -1,7 +1,7 @@
 // A cursor over the positions of a block, row by row.
-ghost use Rattle.std.specs.Prelude.{◌≡◌, ◌+◌, ◌-◌, ◌<◌, ◌≤◌, [], ◌∷◌};
+ghost use Rattle.std.specs.Prelude.{◌≡◌, ◌<◌, ◌≤◌, [], ◌∷◌};
 ghost use Rattle.std.specs.Iterator.{YieldsFirstBy, item_count};
-ghost use Rattle.grid.specs.Positions.{block, coordinates, sector, ListsSector};
+ghost use Rattle.grid.specs.Positions.{coordinates, sector, ListsSector};
 
 use crate::entity::Entity;
 use crate::position::Position;

@@ -1,5 +1,5 @@
 // The picture of a sheet: lines of points and across lines, and between them lines of down lines and cells.
-ghost use Rattle.std.specs.Prelude.{◌≡◌, ℕ, ◌+◌, ◌*◌, ◌<◌, ◌≤◌, length, MatchOption};
+ghost use Rattle.std.specs.Prelude.{◌≡◌, MatchOption};
 ghost use Rattle.picture.specs.Pictures.{On, Stands, width_of, Shows, LaidOut};
 
 use crate::text::LINE_END;

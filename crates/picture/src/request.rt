@@ -1,5 +1,5 @@
 // What a line asks for: a sheet's rows and columns, and which cells are drawn round.
-ghost use Rattle.std.specs.Prelude.{◌≡◌, ℕ, MatchOption, MatchResult, ◌≢◌};
+ghost use Rattle.std.specs.Prelude.{◌≡◌, ℕ, MatchOption, MatchResult};
 ghost use Rattle.picture.specs.Requests.{Numeral, Says, Asks, Chooses};
 
 use crate::text::split_once;

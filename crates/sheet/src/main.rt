@@ -25,15 +25,11 @@ fn print_answers<W: Write>(out: &mut W, text: &[u8], page: &mut [u8]) -> io::Res
     out.flush()
 }
 
-fn run(rt: &HostRuntime) -> anyhow::Result<()> {
+fn main(rt: HostRuntime) -> anyhow::Result<()> {
     let mut input: Vec<u8> = Vec::new(rt.alloc());
     rt.stdin().take(MAX_INPUT).read_to_end(&mut input)?;
     let mut out = BufWriter::new(rt.alloc(), rt.stdout())?;
     let mut page = [0u8; PAGE];
     print_answers(&mut out, &input, &mut page)?;
     Ok(())
-}
-
-fn main(rt: HostRuntime) -> anyhow::Result<()> {
-    run(&rt)
 }
