@@ -17,18 +17,18 @@ small_number n h = lt-ltb n 128 h
 pub few_counted_rows : (s : Shape) → rows_counted s ≤ 128
 few_counted_rows s = cond_both (is_empty s) 0 s.rows (λ n. n ≤ 128) (λ _. omega arith) (λ _. s.tall)
 
+pub small_unless_empty : (s : Shape) (e : Entity) → is_small e ≡ true → Small (unless_empty s e)
+small_unless_empty s e h = cond_both (is_empty s) None (Some e) (λ o. Small (Ok o)) (λ _. tt) (λ _. (h, tt))
+
 module _ (line : ℕ → Entity) (small : (n : ℕ) → n < 128 → is_small (line n) ≡ true) where
   pub small_index : (n : ℕ) → Small (index_meant line n)
   small_index n = up_to Small n _ tt (λ h. (small n h, tt))
 
-  small_unless_empty : (n : ℕ) (s : Shape) → n < 128 → Small (unless_empty s (line n))
-  small_unless_empty n s h = cond_both (is_empty s) None (Some (line n)) (λ e. Small (Ok e)) (λ _. tt) (λ _. (small n h, tt))
-
   pub small_first : (s : Shape) → Small (first_meant line s)
-  small_first s = small_unless_empty 0 s (omega arith)
+  small_first s = small_unless_empty s (line 0) (small 0 (omega arith))
 
   pub small_last : (count : ℕ) → count ≤ 128 → (s : Shape) → Small (last_meant line count s)
-  small_last count h s = small_unless_empty (count - 1) s (omega arith)
+  small_last count h s = small_unless_empty s (line (count - 1)) (small (count - 1) (omega arith))
 
   pub small_from_last : (n : ℕ) → n ≤ 128 → (o : Offset) → Small (named line (from_last n o))
   small_from_last n h (Plus k) =
