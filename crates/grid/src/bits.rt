@@ -2,6 +2,7 @@
 ghost use Rattle.std.specs.Prelude.{◌≡◌, ℕ, ◌<◌, false, ◌||◌, ◌==◌};
 ghost use Rattle.grid.specs.Bits.{bit};
 
+// An array, since the memory of a set is fixed.
 #[derive(Drop)]
 pub struct BitTable {
     words: [u64; 256],

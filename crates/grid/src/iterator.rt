@@ -83,7 +83,8 @@ impl EntityIterator {
         }
     }
 
-    // Goes on to the next position, in this row or at the start of the next one.
+    // Goes on to the next position, in this row or at the start of the next one. Over two ranges, the row at hand
+    // would have to be kept beside them, and this would be no shorter.
     #[tactic(auto, using(crate::proofs::Blocks::rest_along, crate::proofs::Blocks::rest_turn))]
     fn advance(&mut self)
         requires { self.old.row < self.old.bottom }

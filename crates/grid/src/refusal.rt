@@ -26,7 +26,7 @@ pub enum Refusal {
 }
 
 impl Refusal {
-    // The number by which users know this refusal.
+    // The number by which users know this refusal; `u8::from` would not say that it is theirs.
     pub fn number(self) -> u8
         ensures { result ≡ number_of self }
     {

@@ -17,6 +17,7 @@ fn list<W: Write, O: Object>(out: &mut W, object: &O, shape: Shape) -> io::Resul
     writeln!(out)
 }
 
+// A case for each selector: each has a cursor of its own type, so there is no `dyn Object`.
 pub(crate) fn entities<W: Write>(out: &mut W, request: Request) -> io::Result<()> {
     let Request { shape, selector } = request;
     match selector {

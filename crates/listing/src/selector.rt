@@ -9,7 +9,7 @@ use single::segment::SegmentAll;
 use std::ops::Bound;
 use std::str::SplitWhitespace;
 
-#[derive(Clone, Copy)]
+#[derive(Clone, Copy, PartialEq, Eq)]
 pub(crate) enum Selector {
     Row(Row),
     Column(Column),

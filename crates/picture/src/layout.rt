@@ -54,7 +54,8 @@ fn character(shape: Shape, k: usize) -> u8
     }
 }
 
-// Writes the picture to the front of the page, and answers how long it is.
+// Writes the picture to the front of the page, and answers how long it is. The page is lent, since the library
+// allocates nothing.
 pub fn lay_out(shape: Shape, page: &mut [u8]) -> Result<usize, Refusal>
     ensures { LaidOut shape page.old result page.new }
 {

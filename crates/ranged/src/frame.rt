@@ -22,6 +22,7 @@ pub struct FrameIter {
 }
 
 impl FrameIter {
+    #[tactic(auto, using(crate::proofs::Frames::lists_frame))]
     pub fn new(shape: Shape) -> Self
         ensures means { edge_of result.shape (positions_left result.positions) ≡ edge_of shape (positions_of shape Global) }
         ensures lists { ListsFrame shape (edge_of result.shape (positions_left result.positions)) }

@@ -48,7 +48,7 @@ impl<A: Axis> Cursor for SpanIter<A> {
 }
 
 // The rows or columns from a start to an end, on the shape or not.
-#[derive(Clone, Copy)]
+#[derive(Clone, Copy, PartialEq, Eq)]
 pub struct Span<A> {
     range: (Bound<usize>, Bound<usize>),
     axis: PhantomData<A>,

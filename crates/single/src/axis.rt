@@ -106,6 +106,6 @@ impl Axis for ColumnAxis {
 
     // A shape without rows may still have a last column to count from.
     fn counted(shape: Shape) -> usize {
-        shape.columns()
+        Self::count(shape)
     }
 }
