@@ -90,11 +90,7 @@ impl Object for Diagonal {
     }
 
     fn cells(&self, shape: Shape) -> DiagonalIter {
-        let rows = if self.test(shape).is_ok() {
-            shape.rows()
-        } else {
-            0
-        };
+        let rows = self.test(shape).map_or(0, |()| shape.rows());
         DiagonalIter {
             rows: 0..rows,
             columns: self.column..shape.columns(),

@@ -1,8 +1,9 @@
 -- Which positions an entity has, and in which order.
-use Rattle.std.proofs.Common.{◌≡◌, ℕ, zero, suc, ◌+◌, ◌-◌, ◌<◌, ◌≤◌, min, true, false, cond, not, ◌&&◌, ◌||◌, eqb, ◌⊎◌, List, [], ◌∷◌, ◌++◌, Decides, sym, refl, ap, ◌∙◌, inl, inr, ⊎_elim, arith}
+use Rattle.std.proofs.Common.{◌≡◌, ℕ, zero, suc, ◌+◌, ◌-◌, ◌<◌, ◌≤◌, min, true, false, cond, not, ◌&&◌, ◌||◌, eqb, List, [], ◌∷◌, ◌++◌, Decides, sym, refl, ap, ◌∙◌, inl, inr, ⊎_elim, arith}
 use Rattle.std.proofs.Math.Bool.{or_assoc}
+use Rattle.std.proofs.Math.Nat.{eq-or-lt_of_le}
 use native.Mathlib.Nat.{min-le_left, min-le_right, le-min}
-use Rattle.std.proofs.lemmas.Bool.{false≢true, eq-eqb, or_cases, or_left, or_right, and_parts, and_from, cases_eq, ltb-true}
+use Rattle.std.proofs.lemmas.Bool.{false≢true, eq-eqb, or_cases, or_left, or_right, and_parts, and_from, ltb-true}
 use Rattle.std.proofs.lemmas.Bool.Decides.{Decides-like, Decides-and, Decides-or, Decides-not, Decides-eqb, Decides-at}
 use Rattle.grid.specs.declared.shape.Shape.{Shape}
 use Rattle.grid.specs.declared.entity.Entity.{Entity}
@@ -16,9 +17,6 @@ member-append p (x ∷ xs) ys = ap (λ t. same p x || t) (member-append p xs ys)
 decides_same : (a b r c : ℕ) → Decides (same (a, b) (r, c)) ((a ≡ r) × (b ≡ c))
 decides_same a b r c = Decides-and (eqb a r) (eqb b c) (Decides-eqb a r) (Decides-eqb b c)
 
-first_or_later : (b c : ℕ) → c ≤ b → (b ≡ c) ⊎ (c + 1 ≤ b)
-first_or_later b c h = ⊎_elim inl (λ apart. inr (omega arith)) (cases_eq b c)
-
 abbrev InLine : ℕ → ℕ → ℕ → ℕ → ℕ → Type 0
 InLine r c m a b = (a ≡ r) × (c ≤ b) × (b < c + m)
 
@@ -27,7 +25,7 @@ in_line a b r c zero = (λ e. absurd (false≢true e), λ h. absurd (omega arith
 in_line a b r c (suc m) =
     Decides-like (same (a, b) (r, c) || member (a, b) (line r (c + 1) m))
     (⊎_elim (λ h. (h.0, omega (arith, h.1), omega (arith, h.1))) (λ h. (h.0, omega (arith, h.1), omega (arith, h.2))))
-    (λ h. ⊎_elim (λ e. inl (h.0, e)) (λ n. inr (h.0, n, omega (arith, h.2))) (first_or_later b c h.1))
+    (λ h. ⊎_elim (λ e. inl (h.0, sym e)) (λ n. inr (h.0, omega (arith, n), omega (arith, h.2))) (eq-or-lt_of_le h.1))
     (Decides-or (same (a, b) (r, c)) (member (a, b) (line r (c + 1) m)) (decides_same a b r c) (in_line a b r (c + 1) m))
 
 abbrev InBlock : ℕ → ℕ → ℕ → ℕ → ℕ → ℕ → Type 0
@@ -41,7 +39,7 @@ in_block a b r (suc n) c m =
     (⊎_elim
     (λ h. (omega (arith, h.0), omega (arith, h.0), h.1, h.2))
     (λ h. (omega (arith, h.0), omega (arith, h.1), h.2, h.3)))
-    (λ h. ⊎_elim (λ e. inl (e, h.2, h.3)) (λ n. inr (n, omega (arith, h.1), h.2, h.3)) (first_or_later a r h.0))
+    (λ h. ⊎_elim (λ e. inl (sym e, h.2, h.3)) (λ n. inr (omega (arith, n), omega (arith, h.1), h.2, h.3)) (eq-or-lt_of_le h.0))
     (Decides-or _ _ (in_line a b r c m) (in_block a b (r + 1) n c m)))
 
 pub same_self : (p : Coordinates) → same p p ≡ true

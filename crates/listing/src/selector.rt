@@ -4,12 +4,12 @@ use ranged::frame::Frame;
 use ranged::segment::Segment;
 use ranged::span::{Columns, Rows};
 use single::ends::{FirstColumn, FirstRow, LastColumn, LastColumnOffset, LastRow, LastRowOffset};
-use single::index::{Column, Row};
+use single::nth::{Column, Row};
 use single::segment::SegmentAll;
 use std::ops::Bound;
 use std::str::SplitWhitespace;
 
-#[derive(Clone, Copy, PartialEq, Eq)]
+#[derive(Clone, Copy, Debug, PartialEq, Eq)]
 pub(crate) enum Selector {
     Row(Row),
     Column(Column),

@@ -1,6 +1,7 @@
 -- What a test keeps of a list of positions.
 use Rattle.std.specs.Prelude.{◌≡◌, Bool, true, false, ◌&&◌, ◌||◌, List, [], ◌∷◌, filter, refl}
 use Rattle.std.proofs.Common.{sym, ap, ◌∙◌}
+use Rattle.std.proofs.Math.Bool.{and-false}
 use Rattle.std.proofs.lemmas.Bool.{true≢false, false≢true, and_parts, cond_both, eqb-true}
 use Rattle.grid.specs.Positions.{Coordinates, same, member, InRowOrder}
 
@@ -11,11 +12,7 @@ same_is p q e =
 
 -- a position is kept exactly where it is in the list and passes the test
 pub member_kept : (f : Coordinates → Bool) (p : Coordinates) (ps : List Coordinates) → member p (filter f ps) ≡ (f p && member p ps)
-member_kept f p [] = none (f p)
-  where
-    none : (b : Bool) → false ≡ (b && false)
-    none true = refl
-    none false = refl
+member_kept f p [] = sym (and-false (f p))
 member_kept f p (q ∷ qs) =
     cond_both (f q) (q ∷ filter f qs) (filter f qs) (λ xs. member p xs ≡ (f p && (same p q || member p qs)))
     (λ e. passes (f p) (same p q) (member p qs) _ (member_kept f p qs) (λ h. ap f (same_is p q h) ∙ e))

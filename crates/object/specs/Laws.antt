@@ -2,7 +2,7 @@
 use Rattle.std.specs.Prelude.{◌≡◌, ℕ, zero, suc, ◌+◌, ◌<◌, true, false, List, [], ◌∷◌, ◌++◌, map, Some, None, Option, Ok, Err, Result, ◌≢◌, nat_lt, refl}
 use Rattle.std.proofs.Common.{sym, ap, subst, ◌∙◌, ⊎_elim, append-nil, arith}
 use Rattle.std.specs.List.{range_with_len, AllByRecursion}
-use Rattle.std.proofs.lemmas.Bool.{both_ways, cases_Bool, or_cases, or_left, or_right, or_from, or_parts, and_from, lt-ltb, ltb-true, cond_both}
+use Rattle.std.proofs.lemmas.Bool.{both_ways, false_from_ne_true, or_cases, or_left, or_right, or_from, or_parts, and_from, lt-ltb, ltb-true, cond_both}
 use Rattle.std.proofs.ByRecursion.{All-map}
 use Rattle.grid.specs.declared.shape.Shape.{Shape}
 use Rattle.grid.specs.declared.entity.Entity.{Entity}
@@ -17,13 +17,10 @@ use Rattle.object.specs.Cells.{up_to_127, cell_meant, position_meant}
 never_before_itself : (p : Coordinates) → Before p p → ⊥
 never_before_itself p = ⊎_elim (λ h. omega arith) (λ h. omega (arith, h.1))
 
-absent : (p : Coordinates) (ps : List Coordinates) → (member p ps ≢ true) → member p ps ≡ false
-absent p ps h = ⊎_elim (λ e. absurd (h e)) (λ e. e) (cases_Bool (member p ps))
-
 -- row by row, none comes twice
 pub distinct_ordered : (ps : List Coordinates) → InRowOrder ps → Distinct ps
 distinct_ordered [] h = tt
-distinct_ordered (p ∷ ps) h = (absent p ps (λ e. never_before_itself p (h.0 p e)), distinct_ordered ps h.1)
+distinct_ordered (p ∷ ps) h = (false_from_ne_true (member p ps) (λ e. never_before_itself p (h.0 p e)), distinct_ordered ps h.1)
 
 pub distinct_positions : (s : Shape) (e : Entity) → Distinct (positions_of s e)
 distinct_positions s e = distinct_ordered (positions_of s e) (lists s e).ordered
@@ -32,7 +29,7 @@ pub distinct_append : (xs ys : List Coordinates) → Distinct xs → Distinct ys
     → ((p : Coordinates) → member p xs ≡ true → member p ys ≢ true) → Distinct (xs ++ ys)
 distinct_append [] ys dx dy apart = dy
 distinct_append (x ∷ xs) ys dx dy apart = (
-  member-append x xs ys ∙ or_from (member x xs) (member x ys) dx.0 (absent x ys (apart x (or_left (same x x) (member x xs) (same_self x)))),
+  member-append x xs ys ∙ or_from (member x xs) (member x ys) dx.0 (false_from_ne_true (member x ys) (apart x (or_left (same x x) (member x xs) (same_self x)))),
   distinct_append xs ys dx.1 dy (λ p e. apart p (or_right (same p x) (member p xs) e)),
 )
 

@@ -1,8 +1,7 @@
 // Cursors over entities.
-ghost use Rattle.std.specs.Prelude.{List, Option};
+ghost use Rattle.std.specs.Prelude.{List, Option, option_to_list};
 ghost use Rattle.std.specs.Iterator.{YieldsFirst, IsFinite};
 ghost use Rattle.std.specs.Iterator.Adapters.{once_item};
-ghost use Rattle.std.specs.Prelude.{option_to_list};
 ghost use Rattle.std.proofs.Common.{rules};
 ghost use Rattle.grid.specs.declared.entity.Entity.{Entity};
 

@@ -7,7 +7,7 @@ use grid::shape::Shape;
 use object::cell::Cell;
 use ranged::segment::Segment;
 use ranged::span::{Columns, Rows};
-use single::index::{Column, Row};
+use single::nth::{Column, Row};
 use std::ops::Bound;
 use std::test::Fail;
 

@@ -1,3 +1,4 @@
+pub mod Finds
 pub mod Lines
 pub mod Requests
 pub mod Pictures

@@ -1,5 +1,6 @@
 // The picture of a sheet: lines of points and across lines, and between them lines of down lines and cells.
-ghost use Rattle.std.specs.Prelude.{◌≡◌, MatchOption};
+ghost use Rattle.std.specs.Prelude.{◌≡◌};
+ghost use Rattle.picture.specs.Finds.{Finds};
 ghost use Rattle.picture.specs.Pictures.{On, Stands, width_of, Shows, LaidOut};
 
 use crate::text::LINE_END;
@@ -20,7 +21,7 @@ pub enum Spot {
 
 // What stands at this line and column of the picture; none outside it.
 pub fn spot_at(shape: Shape, line: usize, column: usize) -> Option<Spot>
-    ensures { MatchOption result ((s : Spot) → On shape s → Stands s line column → ⊥) (λ s. On shape s × Stands s line column) }
+    ensures { Finds (λ s. On shape s × Stands s line column) result }
 {
     if line > 2 * shape.rows() || column > 2 * shape.columns() {
         return None;

@@ -1,5 +1,6 @@
 // What a line asks for: a sheet's rows and columns, and which cells are drawn round.
-ghost use Rattle.std.specs.Prelude.{◌≡◌, ℕ, MatchOption, MatchResult};
+ghost use Rattle.std.specs.Prelude.{◌≡◌, MatchResult};
+ghost use Rattle.picture.specs.Finds.{Finds};
 ghost use Rattle.picture.specs.Requests.{Numeral, Says, Asks, Chooses};
 
 use crate::text::split_once;
@@ -50,7 +51,7 @@ pub struct Request {
 
 // The number that one to three digits write.
 fn number(field: &[u8]) -> Option<usize>
-    ensures { MatchOption result ((n : ℕ) → Numeral field.now n → ⊥) (λ n. Numeral field.now n) }
+    ensures { Finds (Numeral field.now) result }
 {
     if field.is_empty() || field.len() > 3 {
         return None;
@@ -67,7 +68,7 @@ fn number(field: &[u8]) -> Option<usize>
 
 // The three numbers of a line, with one space between them.
 fn three_numbers(line: &[u8]) -> Option<(usize, usize, usize)>
-    ensures { MatchOption result ((a b c : ℕ) → Says line.now a b c → ⊥) (λ t. Says line.now t.0 t.1 t.2) }
+    ensures { Finds (λ t. Says line.now t.0 t.1 t.2) result }
 {
     let (first, rest) = split_once(line, b' ')?;
     let (second, third) = split_once(rest, b' ')?;

@@ -42,7 +42,7 @@ impl Cursor for SectorIter {
 }
 
 // The cells with a row of the one range and a column of the other, on the shape or not.
-#[derive(Clone, Copy, PartialEq, Eq)]
+#[derive(Clone, Copy, Debug, PartialEq, Eq)]
 pub struct Segment {
     rows: Rows,
     columns: Columns,

@@ -13,7 +13,7 @@ use object::cursor::Cursor;
 use object::object::Object;
 use single::axis::{Axis, ColumnAxis, RowAxis};
 use single::ends::{First, Last};
-use single::index::Index;
+use single::nth::Nth;
 use std::marker::PhantomData;
 use std::ops::{Bound, Range, RangeBounds};
 
@@ -48,7 +48,7 @@ impl<A: Axis> Cursor for SpanIter<A> {
 }
 
 // The rows or columns from a start to an end, on the shape or not.
-#[derive(Clone, Copy, PartialEq, Eq)]
+#[derive(Clone, Copy, Debug, PartialEq, Eq)]
 pub struct Span<A> {
     range: (Bound<usize>, Bound<usize>),
     axis: PhantomData<A>,
@@ -71,10 +71,10 @@ impl<A: Axis> Span<A> {
         }
     }
 
-    pub fn one(index: usize) -> Index<A>
+    pub fn one(index: usize) -> Nth<A>
         ensures { result.index ≡ index }
     {
-        Index::from(index)
+        Nth::from(index)
     }
 
     pub fn first() -> First<A>

@@ -1,7 +1,7 @@
 -- No number of the entity that these selectors list is above 127.
 use Rattle.std.specs.Prelude.{◌≡◌, ℕ, ◌+◌, ◌-◌, ◌<◌, ◌≤◌, true, Some, None, Ok, Err, ◌==◌, nat_lt}
 use Rattle.std.proofs.Common.{arith}
-use Rattle.std.proofs.lemmas.Bool.{lt-ltb, ltb-true, cond_both}
+use Rattle.std.proofs.lemmas.Bool.{ltb-true, cond_both}
 use Rattle.grid.specs.declared.shape.Shape.{Shape}
 use Rattle.grid.specs.declared.entity.Entity.{Entity}
 use Rattle.grid.specs.declared.refusal.Refusal.TheVariants.{PastLast}
@@ -9,10 +9,7 @@ use Rattle.grid.specs.Positions.{is_empty, is_small}
 use Rattle.object.specs.Laws.{Small, up_to}
 use Rattle.single.specs.declared.offset.Offset.{Offset}
 use Rattle.single.specs.declared.offset.Offset.TheVariants.{Plus, Minus}
-use Rattle.single.specs.Singles.{index_meant, unless_empty, first_meant, last_meant, from_last, named, rows_counted}
-
-pub small_number : (n : ℕ) → n < 128 → nat_lt n 128 ≡ true
-small_number n h = lt-ltb n 128 h
+use Rattle.single.specs.Singles.{nth_meant, unless_empty, first_meant, last_meant, from_last, named, rows_counted}
 
 pub few_counted_rows : (s : Shape) → rows_counted s ≤ 128
 few_counted_rows s = cond_both (is_empty s) 0 s.rows (λ n. n ≤ 128) (λ _. omega arith) (λ _. s.tall)
@@ -21,8 +18,8 @@ pub small_unless_empty : (s : Shape) (e : Entity) → is_small e ≡ true → Sm
 small_unless_empty s e h = cond_both (is_empty s) None (Some e) (λ o. Small (Ok o)) (λ _. tt) (λ _. (h, tt))
 
 module _ (line : ℕ → Entity) (small : (n : ℕ) → n < 128 → is_small (line n) ≡ true) where
-  pub small_index : (n : ℕ) → Small (index_meant line n)
-  small_index n = up_to Small n _ tt (λ h. (small n h, tt))
+  pub small_nth : (n : ℕ) → Small (nth_meant line n)
+  small_nth n = up_to Small n _ tt (λ h. (small n h, tt))
 
   pub small_first : (s : Shape) → Small (first_meant line s)
   small_first s = small_unless_empty s (line 0) (small 0 (omega arith))

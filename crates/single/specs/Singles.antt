@@ -11,8 +11,8 @@ use Rattle.object.specs.Cells.{up_to_127}
 use Rattle.single.specs.declared.offset.Offset.{Offset}
 use Rattle.single.specs.declared.offset.Offset.TheVariants.{Plus, Minus}
 
-abbrev pub index_meant : (ℕ → Entity) → ℕ → Result (Option Entity) Refusal
-index_meant line n = up_to_127 n (Ok (Some (line n)))
+abbrev pub nth_meant : (ℕ → Entity) → ℕ → Result (Option Entity) Refusal
+nth_meant line n = up_to_127 n (Ok (Some (line n)))
 
 abbrev pub all_meant : Result (Option Entity) Refusal
 all_meant = Ok (Some Global)

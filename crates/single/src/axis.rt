@@ -6,7 +6,8 @@ ghost use Rattle.grid.specs.declared.shape.Shape.{Shape};
 ghost use Rattle.grid.specs.Positions.{Coordinates, is_small, member, positions_of};
 ghost use Rattle.object.specs.Laws.{row_tells, column_tells};
 ghost use Rattle.single.specs.Singles.{rows_counted};
-ghost use Rattle.single.specs.Laws.{small_number, few_counted_rows};
+ghost use Rattle.std.proofs.lemmas.Bool.{lt-ltb};
+ghost use Rattle.single.specs.Laws.{few_counted_rows};
 
 use grid::entity::Entity;
 use grid::shape::Shape;
@@ -18,7 +19,7 @@ pub trait Axis {
     // how many a shape has
     ghost count: { Shape → ℕ };
 
-    // how many there are for an offset to count back from the last
+    // of how many the last is the one that an offset counts from
     ghost counted: { Shape → ℕ };
 
     // which of them a position is in
@@ -54,7 +55,7 @@ impl Axis for RowAxis {
 
     ghost number = { λ p. p.0 };
 
-    ghost small = { small_number };
+    ghost small = { λ n h. lt-ltb n 128 h };
 
     ghost few = { λ s. s.tall };
 
@@ -88,7 +89,7 @@ impl Axis for ColumnAxis {
 
     ghost number = { λ p. p.1 };
 
-    ghost small = { small_number };
+    ghost small = { λ n h. lt-ltb n 128 h };
 
     ghost few = { λ s. s.wide };
 

@@ -5,7 +5,7 @@ ghost use Rattle.single.specs.Singles.{first_meant, last_meant, from_last, named
 ghost use Rattle.single.specs.Laws.{small_first, small_last, small_from_last};
 
 use crate::axis::{Axis, ColumnAxis, RowAxis};
-use crate::index::Index;
+use crate::nth::Nth;
 use crate::offset::Offset;
 use grid::entity::Entity;
 use grid::refusal::Refusal;
@@ -34,12 +34,12 @@ impl<A: Axis> First<A> {
 
 // So many past the first, on the shape or not.
 impl<A: Axis> Add<usize> for First<A> {
-    type Output = Index<A>;
+    type Output = Nth<A>;
 
     ghost add_gives = { λ _ offset r. r.index ≡ offset };
 
-    fn add(self, offset: usize) -> Index<A> {
-        Index::from(offset)
+    fn add(self, offset: usize) -> Nth<A> {
+        Nth::from(offset)
     }
 }
 

@@ -3,6 +3,6 @@
 
 pub mod axis;
 pub mod ends;
-pub mod index;
+pub mod nth;
 pub mod offset;
 pub mod segment;

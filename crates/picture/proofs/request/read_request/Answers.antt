@@ -13,7 +13,7 @@ pub returns-in_err-rows : goal.returns-in_err-rows
 returns-in_err-rows c =
     let p = err_from_is_err_and c.from_residual.result c.from_residual.ensures.1 in
     let unsaid = rw c.in_err-rows.ensures.ok_part at c.three_numbers.ensures in
-    rw (p.1, p.2) (refused c.three_numbers.result _ c.in_err-rows.ensures.ok_part c.in_err-rows.ensures.value, λ q a. unsaid _ _ _ a.says)
+    rw (p.1, p.2) (refused c.three_numbers.result _ c.in_err-rows.ensures.ok_part c.in_err-rows.ensures.value, λ q a. unsaid (_, _, _) a.says)
 
 pub returns-then-rows-gt-MAX_PRINTED : goal.returns-then-rows-gt-MAX_PRINTED
 returns-then-rows-gt-MAX_PRINTED c = (
