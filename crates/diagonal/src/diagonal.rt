@@ -2,6 +2,7 @@
 ghost use Rattle.std.specs.Prelude.{◌≡◌, Err, Ok, MatchResult};
 ghost use Rattle.std.specs.Iterator.{YieldsFirst, item_count};
 ghost use Rattle.grid.specs.Positions.{coordinates, member};
+ghost use Rattle.object.specs.Cursors.{gives_its_list};
 ghost use Rattle.object.specs.Meanings.{entities, positions, verdict};
 ghost use Rattle.diagonal.specs.Diagonals.{diagonal_means};
 ghost use Rattle.diagonal.specs.Laws.{lawful};
@@ -44,11 +45,7 @@ impl Cursor for DiagonalIter {
 
     ghost to_come = { cells_left };
 
-    ghost ready = { λ s. tt };
-
-    ghost steps = { λ s r t h. h };
-
-    ghost ends = { λ s. tt };
+    ghost laws = { gives_its_list cells_left };
 }
 
 // The cells down to the right from this column of the first row, as far as the grid goes.

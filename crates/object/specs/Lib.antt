@@ -1,5 +1,6 @@
 pub mod Meanings
 pub mod Cells
+pub mod Cursors
 pub mod Selections
 pub mod Laws
 pub mod Kept

@@ -4,6 +4,7 @@ ghost use Rattle.std.specs.Iterator.{YieldsFirst, item_count};
 ghost use Rattle.grid.specs.declared.entity.Entity.TheVariants.{Global};
 ghost use Rattle.grid.specs.Cursors.{remaining as positions_left};
 ghost use Rattle.grid.specs.Positions.{coordinates, positions_of};
+ghost use Rattle.object.specs.Cursors.{gives_its_list};
 ghost use Rattle.ranged.specs.Ranged.{is_on_edge, edge_of, frame_left, frame_means, ListsFrame};
 ghost use Rattle.ranged.specs.Laws.{frame};
 
@@ -64,11 +65,7 @@ impl Iterator for FrameIter {
 impl Cursor for FrameIter {
     ghost to_come = { frame_left };
 
-    ghost ready = { λ s. tt };
-
-    ghost steps = { λ s r t h. h };
-
-    ghost ends = { λ s. tt };
+    ghost laws = { gives_its_list frame_left };
 }
 
 // The cells in the first and last row and column of the grid, each once.

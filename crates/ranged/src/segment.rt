@@ -1,6 +1,7 @@
 // The cells of a range of rows and a range of columns.
 ghost use Rattle.std.specs.Prelude.{◌≡◌};
 ghost use Rattle.std.specs.Iterator.{YieldsFirst, item_count};
+ghost use Rattle.object.specs.Cursors.{gives_its_list};
 ghost use Rattle.ranged.specs.Ranged.{sector_left, segment_means, sector_of};
 ghost use Rattle.ranged.specs.Laws.{segment};
 
@@ -34,11 +35,7 @@ impl Iterator for SectorIter {
 impl Cursor for SectorIter {
     ghost to_come = { sector_left };
 
-    ghost ready = { λ s. tt };
-
-    ghost steps = { λ s r t h. h };
-
-    ghost ends = { λ s. tt };
+    ghost laws = { gives_its_list sector_left };
 }
 
 // The cells with a row of the one range and a column of the other, on the shape or not.

@@ -2,6 +2,7 @@
 ghost use Rattle.std.specs.Prelude.{◌≡◌};
 ghost use Rattle.std.specs.Iterator.{YieldsFirst, item_count};
 ghost use Rattle.grid.specs.Ranges.{resolved};
+ghost use Rattle.object.specs.Cursors.{gives_its_list};
 ghost use Rattle.ranged.specs.Ranged.{span_left, span_means};
 ghost use Rattle.ranged.specs.Laws.{span};
 
@@ -40,11 +41,7 @@ impl<A: Axis> Iterator for SpanIter<A> {
 impl<A: Axis> Cursor for SpanIter<A> {
     ghost to_come = { span_left A.line };
 
-    ghost ready = { λ s. tt };
-
-    ghost steps = { λ s r t h. h };
-
-    ghost ends = { λ s. tt };
+    ghost laws = { gives_its_list (span_left A.line) };
 }
 
 // The rows or columns from a start to an end, on the shape or not.
