@@ -143,6 +143,22 @@ mod tests {
     }
 
     #[test]
+    fn printed(rt: HostRuntime) -> Result<(), Fail> {
+        let cases = [
+            (Entity::Global, "all"),
+            (Entity::Row(5), "R5"),
+            (Entity::Column(127), "C127"),
+            (Entity::Cell(0, 12), "0:12"),
+        ];
+        for (entity, text) in cases {
+            assert_eq!(rt; format!(in rt.alloc(); "{entity}")?.as_str(), text);
+        }
+        let refusal = Refusal::PastLast;
+        assert_eq!(rt; format!(in rt.alloc(); "{refusal}")?.as_str(), "refused 6");
+        Ok(())
+    }
+
+    #[test]
     fn refusals(rt: HostRuntime) -> Result<(), Fail> {
         assert_eq!(rt; Position::new(128, 0), Err(Refusal::OutOfRange));
         assert_eq!(rt; Refusal::OutOfRange.number(), 1);
