@@ -9,7 +9,7 @@ use single::segment::SegmentAll;
 use std::ops::Bound;
 use std::str::SplitWhitespace;
 
-#[derive(Clone, Copy, Debug, PartialEq, Eq)]
+#[derive(Clone, Copy)]
 pub(crate) enum Selector {
     Row(Row),
     Column(Column),
