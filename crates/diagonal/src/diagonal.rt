@@ -87,9 +87,9 @@ impl Object for Diagonal {
     }
 
     fn cells(&self, shape: Shape) -> DiagonalIter {
-        let rows = self.test(shape).map_or(0, |()| shape.rows());
+        // A column that is refused lies past the columns of every shape.
         DiagonalIter {
-            rows: 0..rows,
+            rows: 0..shape.rows(),
             columns: self.column..shape.columns(),
         }
     }

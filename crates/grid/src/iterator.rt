@@ -99,6 +99,7 @@ impl EntityIterator {
     }
 }
 
+// Each call takes the front of what is left; at the end nothing is left, and stays so.
 impl Iterator for EntityIterator {
     ghost use Rattle.grid.specs.Cursors.{remaining as positions_left};
 

@@ -3,7 +3,7 @@ use Rattle.std.specs.Prelude.{List, Option, ⊤}
 use Rattle.std.specs.Iterator.{Count, IsFinite, YieldsFirst, item_count}
 use Rattle.grid.specs.declared.entity.Entity.{Entity}
 
--- it may always be asked, it gives the first of those to come and leaves the rest, and it ends
+-- it may always be asked, each call takes the front of the list, and it ends
 pub record CursorLaws {S : Type 0} (can : S → Type 0) (gives : S → Option Entity → S → Type 0) (count : S → Count) (to_come : S → List Entity) : Type 0 where
   pub ready : (s : S) → can s
   pub steps : (s : S) (r : Option Entity) (t : S) → gives s r t → YieldsFirst to_come s r t

@@ -12,8 +12,8 @@ use std::iter::Once;
 pub trait Cursor: Iterator<Item = Entity> {
     ghost to_come: { Self → List Entity };
 
-    // `next` may always be called; it gives the first of those to come, leaving the rest, and none at the end, where
-    // the cursor stays; and there is an end
+    // `next` may always be called; each call takes the front of the list, or none where the list is empty, and it
+    // stays empty; and there is an end
     ghost laws: { CursorLaws Self.can_next Self.next_gives Self.remaining to_come };
 }
 
