@@ -24,7 +24,7 @@ unless_empty s e = Ok (cond (is_empty s) None (Some e))
 abbrev pub first_meant : (ℕ → Entity) → Shape → Result (Option Entity) Refusal
 first_meant line s = unless_empty s (line 0)
 
--- the last of so many
+-- the last of so many, or nothing on an empty shape
 abbrev pub last_meant : (ℕ → Entity) → ℕ → Shape → Result (Option Entity) Refusal
 last_meant line count s = unless_empty s (line (count - 1))
 

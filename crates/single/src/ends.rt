@@ -105,6 +105,7 @@ impl<A: Axis> Single for Last<A> {
         if shape.is_empty() {
             return Ok(None);
         }
+        // The count is not 0 here, but no law of `Axis` says so.
         Ok(Some(A::line(A::count(shape).saturating_sub(1))))
     }
 }
