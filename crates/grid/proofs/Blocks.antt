@@ -1,5 +1,5 @@
 -- What is left of a block, step by step.
-use Rattle.std.proofs.Common.{◌≡◌, ℕ, zero, suc, ◌+◌, ◌-◌, ◌<◌, ◌≤◌, ltb, [], ◌∷◌, ◌++◌, sym, refl, ap, ◌∙◌, ⊎_elim, arith}
+use Rattle.std.proofs.Common.{◌≡◌, ℕ, zero, suc, ◌+◌, ◌-◌, ◌<◌, ◌≤◌, ltb, ◌⊎◌, [], ◌∷◌, ◌++◌, sym, refl, ap, ◌∙◌, ⊎_elim, arith}
 use Rattle.std.proofs.lemmas.Bool.{cases_lt, lt-ltb, le-ltb, cond-true, cond-false}
 use Rattle.grid.specs.Positions.{line, block}
 use Rattle.grid.specs.Cursors.{rest}
@@ -20,6 +20,14 @@ rest_start top left right bottom =
     (λ h. let n : bottom - top ≡ 0 = omega arith in
     rest_none top left left right bottom h ∙ ap (λ k. block top k left (right - left)) (sym n))
     (cases_lt top bottom)
+
+-- a whole block, by how many rows and columns it has
+pub rest_block : (top rows left columns : ℕ) → rest top left left (left + columns) (top + rows) ≡ block top rows left columns
+rest_block top rows left columns =
+    let n : top + rows - top ≡ rows = omega arith in
+    let m : left + columns - left ≡ columns = omega arith in
+    rest_start top left (left + columns) (top + rows)
+    ∙ ap (λ k. block top k left (left + columns - left)) n ∙ ap (block top rows left) m
 
 first_of_line : (row column right : ℕ) → column < right → line row column (right - column) ≡ (row, column) ∷ line row (column + 1) (right - (column + 1))
 first_of_line row column right h =
@@ -48,5 +56,12 @@ block_narrow r zero c = refl
 block_narrow r (suc n) c = block_narrow (r + 1) n c
 
 -- a block whose columns end before they begin
-pub block_none : (top n left right : ℕ) → right ≤ left → [] ≡ block top n left (right - left)
-block_none top n left right h = let m : right - left ≡ 0 = omega arith in sym (ap (block top n left) m ∙ block_narrow top n left)
+pub no_columns : (top n left right : ℕ) → right ≤ left → [] ≡ block top n left (right - left)
+no_columns top n left right h = let m : right - left ≡ 0 = omega arith in sym (ap (block top n left) m ∙ block_narrow top n left)
+
+-- a block that ends before it begins
+pub block_none : (top bottom left right : ℕ) → (bottom ≤ top) ⊎ (right ≤ left) → [] ≡ block top (bottom - top) left (right - left)
+block_none top bottom left right =
+    ⊎_elim
+    (λ h. let n : bottom - top ≡ 0 = omega arith in sym (ap (λ k. block top k left (right - left)) n))
+    (no_columns top (bottom - top) left right)

@@ -3,7 +3,7 @@ use Rattle.std.proofs.Common.{◌≡◌, ℕ, zero, suc, ◌+◌, ◌-◌, ◌<�
 use Rattle.std.proofs.Math.Bool.{or_assoc}
 use Rattle.std.proofs.Math.Nat.{eq-or-lt_of_le}
 use native.Mathlib.Nat.{min-le_left, min-le_right, le-min}
-use Rattle.std.proofs.lemmas.Bool.{false≢true, eq-eqb, or_cases, or_left, or_right, and_parts, and_from, ltb-true}
+use Rattle.std.proofs.lemmas.Bool.{false≢true, eq-eqb, or_cases, or_left, or_right, and_parts, and_from}
 use Rattle.std.proofs.lemmas.Bool.Decides.{Decides-like, Decides-and, Decides-or, Decides-not, Decides-eqb, Decides-at}
 use Rattle.grid.specs.declared.shape.Shape.{Shape}
 use Rattle.grid.specs.declared.entity.Entity.{Entity}
@@ -84,36 +84,25 @@ lists_sector rows columns =
     below : (x y k : ℕ) → InRange (x, y) k → k < x + (min y 128 - x)
     below x y k h = omega (arith, h.0, le-min h.1 h.2)
 
--- rows or columns that an entity names or goes through
-one_number : (r a : ℕ) → InRange (r, r + 1) a → a ≡ r
-one_number r a h = omega (arith, h.0, h.1)
-
-in_one : (r a : ℕ) → r < 128 → a ≡ r → InRange (r, r + 1) a
-in_one r a small e = (omega arith, omega arith, omega arith)
-
-in_all : (n a : ℕ) → n ≤ 128 → a < n → InRange (0, n) a
-in_all n a few h = (omega arith, h, omega arith)
-
-in_covered : (s : Shape) (e : Entity) → is_small e ≡ true → (a b : ℕ) → Decides (member (a, b) (covered s e)) (LiesIn s e a b)
-in_covered s Global small a b =
-    Decides-like _ (λ h. (h.0.1, h.1.1)) (λ h. (in_all s.rows a s.tall h.0, in_all s.columns b s.wide h.1))
-    ((lists_sector (0, s.rows) (0, s.columns)).exactly a b)
-in_covered s (Row r) small a b =
-    Decides-like _ (λ h. (one_number r a h.0, h.1.1)) (λ h. (in_one r a (ltb-true r 128 small) h.0, in_all s.columns b s.wide h.1))
-    ((lists_sector (r, r + 1) (0, s.columns)).exactly a b)
-in_covered s (Column c) small a b =
-    Decides-like _ (λ h. (h.0.1, one_number c b h.1)) (λ h. (in_all s.rows a s.tall h.0, in_one c b (ltb-true c 128 small) h.1))
-    ((lists_sector (0, s.rows) (c, c + 1)).exactly a b)
-in_covered s (Cell r c) small a b =
-    let parts = and_parts _ _ small in
-    Decides-like _ (λ h. (one_number r a h.0, one_number c b h.1)) (λ h. (in_one r a (ltb-true r 128 parts.0) h.0, in_one c b (ltb-true c 128 parts.1) h.1))
-    ((lists_sector (r, r + 1) (c, c + 1)).exactly a b)
+in_covered : (s : Shape) (e : Entity) (a b : ℕ) → Decides (member (a, b) (covered s e)) (LiesIn s e a b)
+in_covered s Global a b =
+    Decides-like _ (λ h. (omega (arith, h.1), omega (arith, h.3))) (λ h. (omega arith, omega (arith, h.0), omega arith, omega (arith, h.1)))
+    (in_block a b 0 s.rows 0 s.columns)
+in_covered s (Row r) a b =
+    Decides-like _ (λ h. (omega (arith, h.0, h.1), omega (arith, h.3))) (λ h. (omega (arith, h.0), omega (arith, h.0), omega arith, omega (arith, h.1)))
+    (in_block a b r 1 0 s.columns)
+in_covered s (Column c) a b =
+    Decides-like _ (λ h. (omega (arith, h.1), omega (arith, h.2, h.3))) (λ h. (omega arith, omega (arith, h.0), omega (arith, h.1), omega (arith, h.1)))
+    (in_block a b 0 s.rows c 1)
+in_covered s (Cell r c) a b =
+    Decides-like _ (λ h. (omega (arith, h.0, h.1), omega (arith, h.2, h.3))) (λ h. (omega (arith, h.0), omega (arith, h.0), omega (arith, h.1), omega (arith, h.1)))
+    (in_block a b r 1 c 1)
 
 order_covered : (s : Shape) (e : Entity) → InRowOrder (covered s e)
-order_covered s Global = (lists_sector (0, s.rows) (0, s.columns)).ordered
-order_covered s (Row r) = (lists_sector (r, r + 1) (0, s.columns)).ordered
-order_covered s (Column c) = (lists_sector (0, s.rows) (c, c + 1)).ordered
-order_covered s (Cell r c) = (lists_sector (r, r + 1) (c, c + 1)).ordered
+order_covered s Global = order_block 0 s.rows 0 s.columns
+order_covered s (Row r) = order_block r 1 0 s.columns
+order_covered s (Column c) = order_block 0 s.rows c 1
+order_covered s (Cell r c) = order_block r 1 c 1
 
 not_empty : (s : Shape) → Decides (not (is_empty s)) ((0 < s.rows) × (0 < s.columns))
 not_empty s =
@@ -133,7 +122,7 @@ lists s e =
           let parts = and_parts (not (is_empty s)) (is_small e) yes' in
           let some = (not_empty s).0 parts.0 in
           record {
-            exactly = λ a b. Decides-like (member (a, b) (covered s e)) (λ h. (some.0, some.1, parts.1, h)) (λ h. h.3) (in_covered s e parts.1 a b);
+            exactly = λ a b. Decides-like (member (a, b) (covered s e)) (λ h. (some.0, some.1, parts.1, h)) (λ h. h.3) (in_covered s e a b);
             ordered = order_covered s e;
           }
       | false ↦ λ no'.

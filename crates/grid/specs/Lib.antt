@@ -4,3 +4,4 @@ pub mod Cursors
 pub mod Ranges
 pub mod Bits
 pub mod Sets
+pub mod Printed

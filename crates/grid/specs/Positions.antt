@@ -46,10 +46,10 @@ sector rows columns = block rows.0 (min rows.1 128 - rows.0) columns.0 (min colu
 
 -- all of the grid, a row from the first column to the last, a column from the first row to the last, one cell
 abbrev pub covered : Shape → Entity → List Coordinates
-covered s Global = sector (0, s.rows) (0, s.columns)
-covered s (Row r) = sector (r, r + 1) (0, s.columns)
-covered s (Column c) = sector (0, s.rows) (c, c + 1)
-covered s (Cell r c) = sector (r, r + 1) (c, c + 1)
+covered s Global = block 0 s.rows 0 s.columns
+covered s (Row r) = block r 1 0 s.columns
+covered s (Column c) = block 0 s.rows c 1
+covered s (Cell r c) = block r 1 c 1
 
 -- A row, a column or a cell may lie outside the shape, but nothing has a position on an empty shape,
 -- and no position has a number above 127.

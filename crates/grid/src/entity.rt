@@ -40,6 +40,11 @@ impl From<Position> for Entity {
 
 // In a word: all, R and a row, C and a column, or a cell's row and column.
 impl fmt::Display for Entity {
+    ghost use Rattle.std.specs.Prelude.{Some};
+    ghost use Rattle.grid.specs.Printed.{printed_entity};
+
+    ghost output = { λ e. Some (printed_entity e) };
+
     fn fmt<W: fmt::Write>(&self, f: &mut fmt::Formatter<W>) -> fmt::Result {
         match self {
             Entity::Global => write!(f, "all"),

@@ -1,7 +1,7 @@
 // A cursor over the positions of a block, row by row.
-ghost use Rattle.std.specs.Prelude.{◌≡◌, ◌<◌, ◌≤◌, [], ◌∷◌};
+ghost use Rattle.std.specs.Prelude.{◌≡◌, ◌+◌, ◌<◌, ◌≤◌, [], ◌∷◌};
 ghost use Rattle.std.specs.Iterator.{YieldsFirstBy, item_count};
-ghost use Rattle.grid.specs.Positions.{coordinates, sector, ListsSector};
+ghost use Rattle.grid.specs.Positions.{block, coordinates, sector, ListsSector};
 
 use crate::entity::Entity;
 use crate::position::Position;
@@ -28,12 +28,17 @@ impl EntityIterator {
 
     // The positions with a row of the one range and a column of the other. A range is its first number and
     // the one after its last; no position has a number above 127.
-    #[tactic(auto, using(crate::proofs::Listings::lists_sector))]
+    #[tactic(auto, using(crate::proofs::Blocks::block_none, crate::proofs::Listings::lists_sector))]
     pub fn sector(rows: (usize, usize), columns: (usize, usize)) -> Self
         ensures means { remaining result ≡ sector rows columns }
         ensures lists { ListsSector rows columns (remaining result) }
     {
-        EntityIterator::over(rows, columns)
+        let (top, bottom) = (rows.0, rows.1.min(MAX_COUNT));
+        let (left, right) = (columns.0, columns.1.min(MAX_COUNT));
+        if top >= bottom || left >= right {
+            return EntityIterator::done();
+        }
+        EntityIterator::over((top, bottom - top), (left, right - left))
     }
 
     pub(crate) fn of(entity: Entity, shape: Shape) -> Self
@@ -45,10 +50,10 @@ impl EntityIterator {
         let (rows, columns) = (shape.rows(), shape.columns());
         match entity {
             Entity::Global => EntityIterator::over((0, rows), (0, columns)),
-            Entity::Row(r) if r < MAX_COUNT => EntityIterator::over((r, r + 1), (0, columns)),
-            Entity::Column(c) if c < MAX_COUNT => EntityIterator::over((0, rows), (c, c + 1)),
+            Entity::Row(r) if r < MAX_COUNT => EntityIterator::over((r, 1), (0, columns)),
+            Entity::Column(c) if c < MAX_COUNT => EntityIterator::over((0, rows), (c, 1)),
             Entity::Cell(r, c) if r < MAX_COUNT && c < MAX_COUNT => {
-                EntityIterator::over((r, r + 1), (c, c + 1))
+                EntityIterator::over((r, 1), (c, 1))
             }
             _ => EntityIterator::done(),
         }
@@ -66,20 +71,21 @@ impl EntityIterator {
         }
     }
 
-    #[tactic(auto, using(crate::proofs::Blocks::rest_start, crate::proofs::Blocks::block_none))]
+    // The block of so many rows and so many columns, each from a first one on.
+    #[tactic(auto, using(crate::proofs::Blocks::rest_block))]
     fn over(rows: (usize, usize), columns: (usize, usize)) -> Self
-        ensures { remaining result ≡ sector rows columns }
+        requires low { rows.0 + rows.1 ≤ 128 }
+        requires near { columns.0 + columns.1 ≤ 128 }
+        requires wide { 0 < columns.1 }
+        ensures { remaining result ≡ block rows.0 rows.1 columns.0 columns.1 }
     {
-        let (left, right) = (columns.0, columns.1.min(MAX_COUNT));
-        if left >= right {
-            return EntityIterator::done();
-        }
+        let (left, count) = columns;
         EntityIterator {
             row: rows.0,
             column: left,
             left,
-            right,
-            bottom: rows.1.min(MAX_COUNT),
+            right: left + count,
+            bottom: rows.0 + rows.1,
         }
     }
 

@@ -45,6 +45,11 @@ impl Refusal {
 
 // As the programs print it.
 impl fmt::Display for Refusal {
+    ghost use Rattle.std.specs.Prelude.{Some};
+    ghost use Rattle.grid.specs.Printed.{printed_refusal};
+
+    ghost output = { λ e. Some (printed_refusal e) };
+
     fn fmt<W: fmt::Write>(&self, f: &mut fmt::Formatter<W>) -> fmt::Result {
         write!(f, "refused {}", self.number())
     }

@@ -1,6 +1,7 @@
 // Cursors over entities.
 ghost use Rattle.std.specs.Prelude.{List, option_to_list};
 ghost use Rattle.object.specs.Cursors.{CursorLaws};
+ghost use Rattle.std.specs.Iterator.{YieldsFirst};
 ghost use Rattle.std.specs.Iterator.Adapters.{once_item};
 ghost use Rattle.std.proofs.Common.{rules};
 ghost use Rattle.grid.specs.declared.entity.Entity.{Entity};
@@ -22,4 +23,21 @@ impl Cursor for Once<Entity> {
     ghost to_come = { λ s. option_to_list (once_item s) };
 
     ghost laws = { record { ready = λ s. tt; steps = Prim.search rules; ends = λ s. tt } };
+}
+
+// A cursor of any type, as `&mut dyn DynCursor`: a trait above `Iterator` has no `dyn`.
+pub trait DynCursor {
+    ghost entities_left: { Self → List Entity };
+
+    // The first entity of those to come, leaving the rest; none at the end, where the cursor stays.
+    fn next_entity(&mut self) -> Option<Entity>
+        ensures { YieldsFirst entities_left self.old result self.new };
+}
+
+impl<C: Cursor> DynCursor for C {
+    ghost entities_left = { C.to_come };
+
+    fn next_entity(&mut self) -> Option<Entity> {
+        self.next()
+    }
 }

@@ -5,11 +5,13 @@ use grid::entity::Entity;
 use grid::position::Position;
 use grid::refusal::Refusal;
 use grid::shape::Shape;
+use object::cursor::DynCursor;
 use object::object::Object;
 use object::selected::selected;
 use ranged::frame::Frame;
 use ranged::segment::Segment;
 use ranged::span::{Columns, Rows};
+use single::ends::{FirstColumn, FirstRow, LastColumn, LastRow};
 use std::ops::Bound;
 use std::test::Fail;
 
@@ -166,4 +168,33 @@ fn diagonals(rt: HostRuntime) -> Result<(), Fail> {
     lists(&rt, &Diagonal::new(1), Shape::new(2, 9)?, &cells)?;
     lists(&rt, &Diagonal::new(3), Shape::new(4, 3)?, &[])?;
     refuses(&rt, &Diagonal::new(128), Shape::new(4, 3)?, 1)
+}
+
+const LAST: LastRow = LastRow;
+
+// A selector of one value has it by its name, in a constant too.
+#[test]
+fn values_by_name(rt: HostRuntime) -> Result<(), Fail> {
+    let shape = Shape::new(2, 5)?;
+    lists(&rt, &FirstRow, shape, &[Entity::Row(0)])?;
+    lists(&rt, &LAST, shape, &[Entity::Row(1)])?;
+    lists(&rt, &(FirstColumn + 3), shape, &[Entity::Column(3)])?;
+    lists(&rt, &(LastColumn - 1), shape, &[Entity::Column(3)])
+}
+
+fn next_two(cursor: &mut dyn DynCursor) -> (Option<Entity>, Option<Entity>) {
+    let first = cursor.next_entity();
+    (first, cursor.next_entity())
+}
+
+#[test]
+fn cursors_behind_a_reference(rt: HostRuntime) -> Result<(), Fail> {
+    let shape = Shape::new(2, 1)?;
+    let mut cell = (1, 2).cells(shape);
+    assert_eq!(rt; next_two(&mut cell), (Some(Entity::Cell(1, 2)), None));
+    let mut rows = Rows::new(..).cells(shape);
+    let both = (Some(Entity::Row(0)), Some(Entity::Row(1)));
+    assert_eq!(rt; next_two(&mut rows), both);
+    assert_eq!(rt; next_two(&mut rows), (None, None));
+    Ok(())
 }

@@ -24,6 +24,11 @@ pub type FirstRow = First<RowAxis>;
 
 pub type FirstColumn = First<ColumnAxis>;
 
+// Their values, by the same names: a constant's value may not call `new`.
+pub const FirstRow: FirstRow = First { axis: PhantomData };
+
+pub const FirstColumn: FirstColumn = First { axis: PhantomData };
+
 impl<A: Axis> First<A> {
     pub fn new() -> Self
         ensures { result ≡ record { axis = record {} } }
@@ -65,6 +70,11 @@ pub struct Last<A> {
 pub type LastRow = Last<RowAxis>;
 
 pub type LastColumn = Last<ColumnAxis>;
+
+// Their values, by the same names: a constant's value may not call `new`.
+pub const LastRow: LastRow = Last { axis: PhantomData };
+
+pub const LastColumn: LastColumn = Last { axis: PhantomData };
 
 impl<A: Axis> Last<A> {
     pub fn new() -> Self
